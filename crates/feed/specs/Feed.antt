@@ -1,0 +1,94 @@
+-- Feed: the tables that the words of a feed give, and the check of a feed (document 01, 'Feed and drawing', refusals 1 to 4).
+--
+-- In order: the parts of a feed; its tables; the check, in document 01's order. A word that is not there reads as 0.
+-- Assumes nothing.
+use Prim.Native.Nat.{ℕ, _+_, _*_, _-_}
+use mathlib.Core.Bool.{Bool, true, false, _&&_, not, _||_}
+use mathlib.Core.List.{List, [], _∷_}
+use lib.Dec.{eqb, leb, ltb}
+use lib.ListN.{length, getD, take, drop}
+use Rattle.tables.specs.declared.Pair.{Pair}
+use Rattle.tables.specs.Order.{Table, pair, comparePair, isLess}
+use Rattle.tables.specs.Lists.{total}
+use Rattle.tables.specs.Verdict.{Verdict, accepted, refused, unless, _then_}
+
+-- ---- the parts
+
+-- "word 0 is the class count C (0 to 32), word 1 the label count L (0 to 64)"
+unfoldable pub classCount : List ℕ → ℕ
+classCount feed = getD feed 0 0
+
+unfoldable pub labelCount : List ℕ → ℕ
+labelCount feed = getD feed 1 0
+
+unfoldable pub tableCount : List ℕ → ℕ
+tableCount feed = classCount feed + labelCount feed
+
+-- "Then come C + L pair counts (each at most 4,096), then the pairs, classes first"
+unfoldable pub counts : List ℕ → List ℕ
+counts feed = take (tableCount feed) (drop 2 feed)
+
+unfoldable pub body : List ℕ → List ℕ
+body feed = drop (tableCount feed) (drop 2 feed)
+
+-- ---- the tables
+
+-- the words, two by two
+unfoldable pub pairsOf : List ℕ → List Pair
+pairsOf [] = []
+pairsOf (u ∷ []) = []
+pairsOf (u ∷ v ∷ ws) = pair u v ∷ pairsOf ws
+
+-- the list in parts of these lengths
+unfoldable pub cut : {A : Type 0} → List ℕ → List A → List (List A)
+cut [] xs = []
+cut (n ∷ ns) xs = take n xs ∷ cut ns (drop n xs)
+
+unfoldable pub tables : List ℕ → List Table
+tables feed = cut (counts feed) (pairsOf (body feed))
+
+-- the table of class k, that of label k; one that does not exist is empty
+unfoldable pub classTable : List ℕ → ℕ → Table
+classTable feed k = getD (take (classCount feed) (tables feed)) k []
+
+unfoldable pub labelTable : List ℕ → ℕ → Table
+labelTable feed k = getD (drop (classCount feed) (tables feed)) k []
+
+-- ---- the check
+
+-- "2: C, L or a count over its ceiling (that word)"
+unfoldable pub checkCounts : ℕ → List ℕ → Verdict
+checkCounts at [] = accepted
+checkCounts at (n ∷ ns) = unless (leb n 4096) 2 at then checkCounts (at + 1) ns
+
+-- p is above the pair before it, of which there is at most one
+unfoldable pub above : List Pair → Pair → Bool
+above [] p = true
+above (q ∷ qs) p = isLess (comparePair q p)
+
+-- "3: a value above 65,535, or a pair not above the one before it in its table (left word of the pair)"
+-- "4: class pair with unequal sides (left word)"; at one pair 3 comes before 4
+unfoldable pub checkPair : Bool → ℕ → List Pair → Pair → Verdict
+checkPair isClass at before p =
+    unless (leb (p .left) 65535 && leb (p .right) 65535 && above before p) 3 at
+    then unless (not isClass || eqb (p .left) (p .right)) 4 at
+
+unfoldable pub checkPairs : Bool → ℕ → List Pair → Table → Verdict
+checkPairs isClass at before [] = accepted
+checkPairs isClass at before (p ∷ ps) = checkPair isClass at before p then checkPairs isClass (at + 2) (p ∷ []) ps
+
+-- the tables from here on, the first c of which are classes
+unfoldable pub checkTables : ℕ → ℕ → List Table → Verdict
+checkTables c at [] = accepted
+checkTables c at (t ∷ ts) = checkPairs (ltb 0 c) at [] t then checkTables (c - 1) (at + 2 * length t) ts
+
+-- "For the feed: 1 and 2 in word order (length 2, C and L, 2 + C + L, counts, exact length), then pairs by place, 3 before 4"
+unfoldable pub checkFeed : List ℕ → Verdict
+checkFeed feed =
+    unless (leb 2 (length feed)) 1 0
+    then unless (leb (classCount feed) 32) 2 0
+    then unless (leb (labelCount feed) 64) 2 1
+    then unless (leb (2 + tableCount feed) (length feed)) 1 0
+    then checkCounts 2 (counts feed)
+    then unless (eqb (length feed) (2 + tableCount feed + 2 * total (counts feed))) 1 0
+    then checkTables (classCount feed) (2 + tableCount feed) (tables feed)

@@ -1,0 +1,1 @@
+// The feed: classes and labelled pairs of regions, as a camera writes them.
