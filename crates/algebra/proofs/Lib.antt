@@ -1,0 +1,4 @@
+pub mod Operators
+pub mod Tags
+pub mod Run
+pub mod Registers
