@@ -3,14 +3,14 @@
 -- In order: the parts of a feed; its tables; the check, in document 01's order. A word that is not there reads as 0.
 -- Assumes nothing.
 use Prim.Native.Nat.{ℕ, _+_, _*_, _-_}
-use mathlib.Core.Bool.{Bool, true, false, _&&_, not, _||_}
+use mathlib.Core.Bool.{Bool, true, _&&_, not, _||_}
 use mathlib.Core.List.{List, [], _∷_}
 use lib.Dec.{eqb, leb, ltb}
 use lib.ListN.{length, getD, take, drop}
 use Rattle.tables.specs.declared.Pair.{Pair}
 use Rattle.tables.specs.Order.{Table, pair, comparePair, isLess}
 use Rattle.tables.specs.Lists.{total}
-use Rattle.tables.specs.Verdict.{Verdict, accepted, refused, unless, _then_}
+use Rattle.tables.specs.Verdict.{Verdict, accepted, unless, _then_}
 
 -- ---- the parts
 
