@@ -1,0 +1,47 @@
+//! Tests of the proved matcher from outside: each call against a plain Rust reading of document 01, on many random inputs.
+//! Prints how often each number was met; the last line is 'N passed, M failed'.
+
+mod cases;
+mod checks;
+mod matcher;
+#[allow(dead_code)]
+mod model;
+mod random;
+
+use std::fmt::Debug;
+
+#[derive(Default)]
+pub struct Tally {
+    passed: usize,
+    failed: usize,
+}
+
+impl Tally {
+    /// One comparison; the first few that fail are shown with their input.
+    pub fn same<T: PartialEq + Debug>(&mut self, what: &str, found: &T, expected: &T, input: &[u32]) {
+        if found == expected {
+            self.passed += 1;
+            return;
+        }
+        self.failed += 1;
+        if self.failed <= 10 {
+            println!("{what}: found {found:?}, expected {expected:?}, for {input:?}");
+        }
+    }
+
+    /// How often each number was met; one that was never met is a failure, for then the test shows nothing of it.
+    pub fn met(&mut self, what: &str, counts: &[usize]) {
+        let shown: Vec<String> = counts.iter().enumerate().map(|(i, n)| format!("{i}: {n}")).collect();
+        println!("{what}: {}", shown.join(", "));
+        self.same(what, &counts.iter().all(|&n| n > 0), &true, &[]);
+    }
+}
+
+fn main() {
+    let mut tally = Tally::default();
+    checks::feeds(&mut tally, 200_000);
+    checks::drawings(&mut tally, 200_000);
+    checks::ceilings(&mut tally);
+    println!("{} passed, {} failed", tally.passed, tally.failed);
+    std::process::exit((tally.failed > 0) as i32);
+}

@@ -1,0 +1,18 @@
+//! The proved matcher, through its C interface.
+
+extern "C" {
+    fn matcher_check_feed(feed: *const u32, feed_len: usize, place: *mut u32) -> u32;
+    fn matcher_check_drawing(feed: *const u32, feed_len: usize, drawing: *const u32, drawing_len: usize, place: *mut u32) -> u32;
+}
+
+pub fn check_feed(feed: &[u32]) -> (u32, u32) {
+    let mut place = u32::MAX;
+    let number = unsafe { matcher_check_feed(feed.as_ptr(), feed.len(), &mut place) };
+    (number, place)
+}
+
+pub fn check_drawing(feed: &[u32], drawing: &[u32]) -> (u32, u32) {
+    let mut place = u32::MAX;
+    let number = unsafe { matcher_check_drawing(feed.as_ptr(), feed.len(), drawing.as_ptr(), drawing.len(), &mut place) };
+    (number, place)
+}
