@@ -1,0 +1,27 @@
+/* The region matcher: C interface of the proved library.
+ *
+ * A slice is a pointer, then a length in elements. Each call returns the number of the refusal, 0 when it accepts, and
+ * writes the place through `place`, 0 when it accepts. No pointer may be null; a slice that is written to overlaps no other.
+ * Numbers and places are those of the table of refusals in README.md.
+ */
+#ifndef MATCHER_H
+#define MATCHER_H
+
+#include <stddef.h>
+#include <stdint.h>
+
+#ifdef __cplusplus
+extern "C" {
+#endif
+
+/* Checks a feed: 1 to 4. */
+uint32_t matcher_check_feed(const uint32_t *feed, size_t feed_len, uint32_t *place);
+
+/* Checks a feed, then a drawing: 1 to 7. */
+uint32_t matcher_check_drawing(const uint32_t *feed, size_t feed_len, const uint32_t *drawing, size_t drawing_len, uint32_t *place);
+
+#ifdef __cplusplus
+}
+#endif
+
+#endif
