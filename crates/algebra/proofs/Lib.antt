@@ -2,3 +2,5 @@ pub mod Operators
 pub mod Tags
 pub mod Run
 pub mod Registers
+pub mod Signatures
+pub mod Instructions

@@ -1,3 +1,4 @@
+pub mod Answers
 pub mod Instructions
 pub mod Operators
 pub mod Run

@@ -1,2 +1,4 @@
 pub mod Check
 pub mod Embeddings
+pub mod Words
+pub mod Builder

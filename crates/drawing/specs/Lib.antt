@@ -1,2 +1,4 @@
 pub mod Drawing
 pub mod Embeddings
+pub mod Builder
+pub mod Answers

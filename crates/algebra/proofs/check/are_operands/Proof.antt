@@ -1,0 +1,75 @@
+-- `algebra::check::are_operands` meets its contract: each shape by its own tests. Assumes nothing.
+use mathlib.Core.Bool.{and-true}
+use borrow.Author.Needs.{needs}
+use Rattle.feed.specs.Feed.{classCount, labelCount}
+use Rattle.algebra.specs.Instructions.{isOperand}
+use Rattle.algebra.specs.Answers.{operandsOf, areOperands}
+use Rattle.algebra.proofs.check.are_operands.Statement.{statement}
+use Rattle.algebra.proofs.check.are_operands.Tie as tie
+
+enum-told : tie.Need-enum-told
+enum-told c = search needs
+
+shared-slice-read-result : tie.Need-shared-slice-read-result
+shared-slice-read-result c = search needs
+
+enum-told-2 : tie.Need-enum-told-2
+enum-told-2 c = search needs
+
+shared-slice-read-result-2 : tie.Need-shared-slice-read-result-2
+shared-slice-read-result-2 c = search needs
+
+enum-told-3 : tie.Need-enum-told-3
+enum-told-3 c = search needs
+
+enum-told-4 : tie.Need-enum-told-4
+enum-told-4 c = search needs
+
+enum-told-5 : tie.Need-enum-told-5
+enum-told-5 c = search needs
+
+enum-told-6 : tie.Need-enum-told-6
+enum-told-6 c = search needs
+
+returns : tie.Need-returns
+unfolding areOperands operandsOf isOperand classCount
+returns c = rw (c .before .enum-told .given .1)
+
+returns-2 : tie.Need-returns-2
+unfolding areOperands operandsOf isOperand labelCount
+returns-2 c = rw (c .before .enum-told2 .given .1)
+
+returns-3 : tie.Need-returns-3
+unfolding areOperands operandsOf isOperand
+returns-3 c = rw (c .enum-told3 .given .1)
+
+returns-4 : tie.Need-returns-4
+unfolding areOperands operandsOf isOperand
+returns-4 c = rw (c .enum-told4 .given .1)
+
+returns-5 : tie.Need-returns-5
+unfolding areOperands operandsOf isOperand
+returns-5 c = rw (c .enum-told5 .given .1, and-true)
+
+returns-6 : tie.Need-returns-6
+unfolding areOperands operandsOf
+returns-6 c = rw (c .enum-told6 .given .1)
+
+pub are-operands-spec : {M : Type 1} → statement M
+are-operands-spec =
+    tie.close
+    (tie.spec
+    enum-told
+    shared-slice-read-result
+    enum-told-2
+    shared-slice-read-result-2
+    enum-told-3
+    enum-told-4
+    enum-told-5
+    enum-told-6
+    returns
+    returns-2
+    returns-3
+    returns-4
+    returns-5
+    returns-6)

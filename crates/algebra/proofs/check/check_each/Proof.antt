@@ -1,0 +1,86 @@
+-- `algebra::check::check_each` meets its contract. The loop's invariant: the check of the instructions from here on answers as that of all.
+-- The measure is how many are left. Assumes nothing.
+use mathlib.Core.Path.{_≡_, refl, _∙_, sym, ap}
+use Prim.Native.Nat.{_-_, _<_, _≤_}
+use native.Mathlib.Omega.{arith}
+use borrow.Author.Needs.{needs}
+use lib.ListN.{drop, length, getD}
+use Rattle.algebra.specs.Instructions.{instruction, instructionsOf, isValid, checkEach, instructionCeiling}
+use Rattle.algebra.specs.Answers.{instructionVerdict}
+use Rattle.algebra.proofs.Instructions.{length-instructionsOf, check-next, check-stops, check-ends}
+use Rattle.algebra.proofs.check.check_each.Statement.{statement}
+use Rattle.algebra.proofs.check.check_each.Tie as tie
+
+abbrev Inv-loop : tie.InvT-loop
+Inv-loop feed list count i₀ i = (i ≤ count) × (checkEach feed i (drop i (instructionsOf list)) ≡ checkEach feed 0 (instructionsOf list))
+
+abbrev μ-loop : tie.MeasureT-loop
+μ-loop feed list count i₀ i = count - i
+
+loop-holds : tie.Need-loop-holds Inv-loop μ-loop
+loop-holds c = (omega arith, refl)
+
+instruction-at-requires : tie.Need-instruction-at-requires Inv-loop μ-loop
+instruction-at-requires c κs = omega arith
+
+cast-place : tie.Need-cast-place Inv-loop μ-loop
+unfolding instructionCeiling
+cast-place c = omega arith
+
+is-valid-requires : tie.Need-is-valid-requires Inv-loop μ-loop
+is-valid-requires c κs = search needs
+
+add-i : tie.Need-add-i Inv-loop μ-loop
+add-i c = omega arith
+
+loop-less : tie.Need-loop-less Inv-loop μ-loop
+loop-less c = omega arith
+
+-- the instruction that is read is that of the list
+valid : (c : tie.After-is-valid Inv-loop μ-loop) →
+    isValid (c .before .before .before .before .before .before .args .feed .now) (c .before .before .before .loop .i)
+    (getD (instructionsOf (c .before .before .before .before .before .before .args .list .now)) (c .before .before .before .loop .i) (instruction 0 0 0))
+    ≡ c .is-valid .result
+valid c = ap (isValid _ _) (sym (c .before .instruction-at .ensures)) ∙ sym (c .is-valid .ensures)
+
+loop-again : tie.Need-loop-again Inv-loop μ-loop
+loop-again c =
+    let a = c .before .before .before .before .before .before .before .args in
+    let i = c .before .before .before .before .loop .i in
+    let code = instructionsOf (a .list .now) in
+    let l : i < length code = omega (arith, length-instructionsOf (a .list .now)) in
+    (omega arith, sym (check-next (a .feed .now) i code (instruction 0 0 0) l (valid (c .before) ∙ c .if1 .taken)) ∙ c .before .before .before .before .loop .inv .1)
+
+returns : tie.Need-returns Inv-loop μ-loop
+unfolding instructionVerdict
+returns c =
+    let a = c .before .before .before .before .before .before .before .args in
+    let i = c .before .before .before .before .loop .i in
+    let code = instructionsOf (a .list .now) in
+    let l : i < length code = omega (arith, length-instructionsOf (a .list .now)) in
+    sym (check-stops (a .feed .now) i code (instruction 0 0 0) l (valid (c .before) ∙ c .if1 .left)) ∙ c .before .before .before .before .loop .inv .1
+
+returns-2 : tie.Need-returns-2 Inv-loop μ-loop
+unfolding instructionVerdict
+returns-2 c =
+    let a = c .before .before .before .before .args in
+    let i = c .before .loop .i in
+    let code = instructionsOf (a .list .now) in
+    let l : length code ≤ i = omega (arith, length-instructionsOf (a .list .now)) in
+    sym (check-ends (a .feed .now) i code l) ∙ c .before .loop .inv .1
+
+pub check-each-spec : {M : Type 1} → statement M
+check-each-spec =
+    tie.close
+    (tie.spec
+    Inv-loop
+    μ-loop
+    loop-holds
+    instruction-at-requires
+    cast-place
+    is-valid-requires
+    add-i
+    loop-less
+    loop-again
+    returns
+    returns-2)

@@ -1,0 +1,38 @@
+-- `algebra::check::check_instructions` meets its contract: a feed that is refused answers first; one that is accepted has its two counts.
+-- Assumes nothing.
+use mathlib.Core.Path.{_≡_, _∙_, sym, ap}
+use borrow.Author.Needs.{needs}
+use Rattle.tables.specs.Verdict.{accepted, _then_}
+use Rattle.feed.specs.Feed.{checkFeed}
+use Rattle.feed.specs.Answers.{feedVerdict}
+use Rattle.feed.proofs.Feed.{feed-accepted}
+use Rattle.feed.proofs.Answers.{refuses}
+use Rattle.algebra.specs.Instructions.{checkInstructions}
+use Rattle.algebra.specs.Answers.{instructionVerdict, checkInstructionList}
+use Rattle.algebra.proofs.check.check_instructions.Statement.{statement}
+use Rattle.algebra.proofs.check.check_instructions.Tie as tie
+
+check-feed-requires : tie.Need-check-feed-requires
+check-feed-requires c κs = search needs
+
+enum-told : tie.Need-enum-told
+enum-told c = search needs
+
+returns : tie.Need-returns
+unfolding instructionVerdict checkInstructions
+returns c = rw (← c .before .check-feed .ensures) (refuses _ _ (c .match .keys2))
+
+feed-is-accepted : (c : tie.After-enum-told) → checkFeed (c .before .before .before .before .before .args .feed .now) ≡ accepted
+unfolding feedVerdict
+feed-is-accepted c = sym (c .before .before .check-feed .ensures) ∙ ap feedVerdict (c .enum-told .given .1)
+
+check-list-requires : tie.Need-check-list-requires
+check-list-requires c κs = feed-accepted _ (feed-is-accepted c) .headed
+
+returns-2 : tie.Need-returns-2
+unfolding checkInstructions checkInstructionList _then_
+returns-2 c = rw (feed-is-accepted (c .before)) (c .check-list .ensures)
+
+pub check-instructions-spec : {M : Type 1} → statement M
+check-instructions-spec =
+    tie.close (tie.spec check-feed-requires enum-told returns check-list-requires returns-2)

@@ -1,0 +1,114 @@
+-- `feed::check_feed` meets its contract: the tests are taken in document 01's order, each answer at its own return. Assumes nothing.
+use mathlib.Core.Path.{_≡_, _∙_, sym}
+use Prim.Native.Nat.{_≤_}
+use native.Mathlib.Omega.{arith}
+use borrow.Author.Needs.{needs}
+use Rattle.tables.specs.Lists.{total}
+use Rattle.feed.specs.Feed.{classCount, labelCount, tableCount, counts, checkCounts}
+use Rattle.feed.specs.Answers.{feedVerdict, countsFound}
+use Rattle.feed.specs.declared.Counts.the-variants.{Sum}
+use Rattle.feed.proofs.Checks.{Head, no-head, many-classes, many-labels, no-counts, count-over, wrong-length, right-length, sum-small, is-exact}
+use Rattle.feed.proofs.check_feed.Statement.{statement}
+use Rattle.feed.proofs.check_feed.Tie as tie
+
+returns : tie.Need-returns
+unfolding feedVerdict
+returns c = no-head (c .before .before .args .feed .now) (c .if1 .taken)
+
+word-requires : tie.Need-word-requires
+word-requires c κs = search needs
+
+returns-2 : tie.Need-returns-2
+unfolding feedVerdict classCount
+returns-2 c = many-classes (c .before .before .before .before .args .feed .now) (omega arith) (omega arith)
+
+word-requires-2 : tie.Need-word-requires-2
+word-requires-2 c κs = search needs
+
+returns-3 : tie.Need-returns-3
+unfolding feedVerdict classCount labelCount
+returns-3 c = many-labels (c .before .before .before .before .before .before .args .feed .now) (omega arith) (omega arith) (omega arith)
+
+add-head : tie.Need-add-head
+add-head c = search needs
+
+add-head-2 : tie.Need-add-head-2
+add-head-2 c = search needs
+
+returns-4 : tie.Need-returns-4
+unfolding feedVerdict classCount labelCount tableCount
+returns-4 c = no-counts (c .before .before .before .before .before .before .before .args .feed .now) (omega arith) (omega arith) (omega arith) (omega arith)
+
+head : (c : tie.Else4) → Head (c .before .before .before .before .before .before .before .args .feed .now)
+unfolding classCount labelCount tableCount
+head c = record { headed = omega arith; fewClasses = omega arith; fewLabels = omega arith; counted = omega arith }
+
+sum-counts-requires : tie.Need-sum-counts-requires
+unfolding classCount labelCount tableCount
+sum-counts-requires c κs = omega arith
+
+enum-known-place : tie.Need-enum-known-place
+enum-known-place c = search needs
+
+enum-known-sum : tie.Need-enum-known-sum
+enum-known-sum c = search needs
+
+-- the answer for the counts was a sum
+summed : (c : tie.After-known-told2) → let feed = c .before .before .before .before .before .before .before .before .before .before .before .args .feed .now in
+    Sum (c .before .sum .given .0 .0) ≡ countsFound (checkCounts 2 (counts feed)) (total (counts feed))
+summed c = sym (c .before .sum .given .1) ∙ c .before .before .before .sum-counts .ensures
+
+small : (c : tie.After-known-told2) → c .before .sum .given .0 .0 ≤ 393216
+small c = sum-small _ (head (c .before .before .before .before)) (summed c)
+
+mul-if5 : tie.Need-mul-if5
+mul-if5 c = omega (arith, small c)
+
+add-if5 : tie.Need-add-if5
+add-if5 c = omega (arith, small c)
+
+returns-5 : tie.Need-returns-5
+unfolding feedVerdict classCount labelCount tableCount
+returns-5 c =
+    let at = c .before in
+    wrong-length _ (head (at .before .before .before .before)) (summed at) (λ e. omega (arith, c .if5 .taken))
+
+check-tables-requires : tie.Need-check-tables-requires
+unfolding classCount labelCount tableCount
+check-tables-requires c κs =
+    let at = c .before in
+    is-exact _ (head (at .before .before .before .before)) (summed at) (omega arith)
+
+returns-6 : tie.Need-returns-6
+unfolding feedVerdict
+returns-6 c =
+    let at = c .before .before .before in
+    count-over _ (head (at .before)) (sym (c .before .place .given .1) ∙ at .sum-counts .ensures)
+
+returns-7 : tie.Need-returns-7
+unfolding classCount labelCount tableCount
+returns-7 c =
+    let at = c .before .before in
+    c .check-tables .ensures ∙ right-length _ (head (at .before .before .before .before)) (summed at) (omega arith)
+
+pub check-feed-spec : {M : Type 1} → statement M
+check-feed-spec =
+    tie.close
+    (tie.spec
+    returns
+    word-requires
+    returns-2
+    word-requires-2
+    returns-3
+    add-head
+    add-head-2
+    returns-4
+    sum-counts-requires
+    enum-known-place
+    enum-known-sum
+    mul-if5
+    add-if5
+    returns-5
+    check-tables-requires
+    returns-6
+    returns-7)

@@ -1,0 +1,73 @@
+-- `feed::check_pairs` meets its contract. The loop's invariant: the check from the pair j on is the check of the whole table.
+-- Assumes nothing.
+use mathlib.Core.Path.{_≡_, _∙_}
+use mathlib.Core.List.{[]}
+use Prim.Native.Nat.{_+_, _-_, _≤_}
+use native.Mathlib.Omega.{arith}
+use borrow.Author.Needs.{needs}
+use lib.ListN.{take, drop}
+use Rattle.tables.specs.Verdict.{_then_}
+use Rattle.feed.specs.Feed.{pairsOf, checkPairs}
+use Rattle.feed.specs.Answers.{feedVerdict}
+use Rattle.feed.proofs.Answers.{accepts, refuses}
+use Rattle.feed.proofs.Pairs.{pairsLeft, pairs-start, pairs-turn, pairs-end}
+use Rattle.feed.proofs.check_pairs.Statement.{statement}
+use Rattle.feed.proofs.check_pairs.Tie as tie
+
+abbrev Inv-loop : tie.InvT-loop
+Inv-loop feed class at count j₀ j = (j ≤ count) × (pairsLeft feed class at count j ≡ checkPairs class at [] (take count (pairsOf (drop at feed))))
+
+abbrev μ-loop : tie.MeasureT-loop
+μ-loop feed class at count j₀ j = count - j
+
+loop-holds : tie.Need-loop-holds Inv-loop μ-loop
+loop-holds c = let a = c .before .args in (omega arith, pairs-start (a .feed .now) (a .class) (a .at) (a .count))
+
+check-pair-requires : tie.Need-check-pair-requires Inv-loop μ-loop
+check-pair-requires c κs = search needs
+
+enum-told : tie.Need-enum-told Inv-loop μ-loop
+enum-told c = search needs
+
+-- the answer for the pair j, then the check from the next pair on, is the check of the whole table
+turn : (c : tie.After-check-pair Inv-loop μ-loop) →
+    let a = c .before .before .before .before .args in
+    feedVerdict (c .check-pair .result) then pairsLeft (a .feed .now) (a .class) (a .at) (a .count) (c .before .before .loop .j + 1)
+    ≡ checkPairs (a .class) (a .at) [] (take (a .count) (pairsOf (drop (a .at) (a .feed .now))))
+turn c =
+    let a = c .before .before .before .before .args in
+    pairs-turn (a .feed .now) (a .class) (a .at) (a .count) (c .before .before .loop .j) (omega arith) (omega arith) (c .check-pair .ensures)
+    ∙ c .before .before .loop .inv .1
+
+returns : tie.Need-returns Inv-loop μ-loop
+returns c = refuses _ _ (c .match .keys2) ∙ turn (c .before)
+
+add-j : tie.Need-add-j Inv-loop μ-loop
+add-j c = search needs
+
+loop-less : tie.Need-loop-less Inv-loop μ-loop
+loop-less c = omega arith
+
+loop-again : tie.Need-loop-again Inv-loop μ-loop
+loop-again c = (omega arith, accepts _ (c .enum-told .given .1) ∙ turn (c .before .before))
+
+returns-2 : tie.Need-returns-2 Inv-loop μ-loop
+unfolding feedVerdict
+returns-2 c =
+    let a = c .before .before .before .args in
+    pairs-end (a .feed .now) (a .class) (a .at) (a .count) (c .before .loop .j) (c .loop-test .left) ∙ c .before .loop .inv .1
+
+pub check-pairs-spec : {M : Type 1} → statement M
+check-pairs-spec =
+    tie.close
+    (tie.spec
+    Inv-loop
+    μ-loop
+    loop-holds
+    check-pair-requires
+    enum-told
+    returns
+    add-j
+    loop-less
+    loop-again
+    returns-2)

@@ -1,0 +1,120 @@
+-- `feed::check_tables` meets its contract. The loop's invariant: the check from the table k on, which starts at `at`, is that of all tables, and the
+-- words from `at` on are those of these tables. Assumes nothing.
+use mathlib.Core.Path.{_≡_, _∙_}
+use Prim.Native.Nat.{_+_, _*_, _-_, _≤_}
+use native.Mathlib.Omega.{arith}
+use borrow.Author.Needs.{needs}
+use lib.ListN.{length}
+use Rattle.tables.specs.Verdict.{_then_}
+use Rattle.feed.specs.Feed.{classCount, tableCount, tables, checkTables}
+use Rattle.feed.specs.Answers.{feedVerdict}
+use Rattle.feed.proofs.Answers.{accepts, refuses}
+use Rattle.feed.proofs.Words.{Ends, ends-start, ends-inside, ends-next}
+use Rattle.feed.proofs.Checks.{tablesLeft, tables-start, tables-turn, tables-end}
+use Rattle.feed.proofs.check_tables.Statement.{statement}
+use Rattle.feed.proofs.check_tables.Tie as tie
+
+abbrev Inv-loop : tie.InvT-loop
+Inv-loop feed classes n at₀ k₀ at k =
+    (k ≤ n) × Ends feed k at × (tablesLeft feed k at ≡ checkTables (classCount feed) (2 + tableCount feed) (tables feed))
+
+abbrev μ-loop : tie.MeasureT-loop
+μ-loop feed classes n at₀ k₀ at k = n - k
+
+word-requires : tie.Need-word-requires Inv-loop μ-loop
+word-requires c κs = omega arith
+
+table-count-requires : tie.Need-table-count-requires Inv-loop μ-loop
+table-count-requires c κs = omega arith
+
+add-at : tie.Need-add-at Inv-loop μ-loop
+add-at c = omega arith
+
+loop-holds : tie.Need-loop-holds Inv-loop μ-loop
+loop-holds c =
+    let feed = c .before .before .before .args .feed .now in
+    (omega arith, rw (c .table-count .ensures) (ends-start feed (c .before .before .before .pre .exact)), rw (c .table-count .ensures) (tables-start feed))
+
+add-word : tie.Need-add-word Inv-loop μ-loop
+add-word c = omega arith
+
+word-requires-2 : tie.Need-word-requires-2 Inv-loop μ-loop
+word-requires-2 c κs = omega arith
+
+inside : (c : tie.After-word2 Inv-loop μ-loop) → c .before .before .loop .at + 2 * c .word2 .result ≤ length (c .before .before .before .before .before .before .args .feed .now)
+inside c =
+    let at = c .before .before in
+    let feed = at .before .before .before .before .args .feed .now in
+    rw (c .word2 .ensures) (ends-inside feed (omega arith) (at .loop .k) (at .loop .at) (omega arith) (at .loop .inv .1))
+
+check-pairs-requires : tie.Need-check-pairs-requires Inv-loop μ-loop
+check-pairs-requires c κs = (inside c, omega arith)
+
+enum-told : tie.Need-enum-told Inv-loop μ-loop
+enum-told c = search needs
+
+-- the answer for the table k, then the check from the next table on, is the check of all tables
+turn : (c : tie.After-check-pairs Inv-loop μ-loop) →
+    let at = c .before .before .before in
+    let feed = at .before .before .before .before .args .feed .now in
+    feedVerdict (c .check-pairs .result) then tablesLeft feed (at .loop .k + 1) (at .loop .at + 2 * c .before .word2 .result)
+    ≡ checkTables (classCount feed) (2 + tableCount feed) (tables feed)
+unfolding classCount
+turn c =
+    let at = c .before .before .before in
+    let feed = at .before .before .before .before .args .feed .now in
+    tables-turn feed (omega arith) (at .loop .k) (at .loop .at) (omega arith) (at .loop .inv .1) (at .before .before .word .ensures) (c .before .word2 .ensures) (c .check-pairs .ensures)
+    ∙ at .loop .inv .2
+
+returns : tie.Need-returns Inv-loop μ-loop
+returns c = refuses _ _ (c .match .keys2) ∙ turn (c .before)
+
+mul-at : tie.Need-mul-at Inv-loop μ-loop
+mul-at c = omega (arith, inside (c .before .before .before))
+
+add-at-2 : tie.Need-add-at-2 Inv-loop μ-loop
+add-at-2 c = omega (arith, inside (c .before .before .before))
+
+add-k : tie.Need-add-k Inv-loop μ-loop
+add-k c = omega arith
+
+loop-less : tie.Need-loop-less Inv-loop μ-loop
+loop-less c = omega arith
+
+loop-again : tie.Need-loop-again Inv-loop μ-loop
+loop-again c =
+    let at = c .before .before .before .before .before in
+    let feed = at .before .before .before .before .args .feed .now in (
+      omega arith,
+      rw (c .before .before .before .word2 .ensures) (ends-next feed (omega arith) (at .loop .k) (at .loop .at) (omega arith) (at .loop .inv .1)),
+      accepts _ (c .enum-told .given .1) ∙ turn (c .before .before),
+    )
+
+returns-2 : tie.Need-returns-2 Inv-loop μ-loop
+unfolding feedVerdict
+returns-2 c =
+    let at = c .before in
+    let feed = at .before .before .before .before .args .feed .now in
+    tables-end feed (omega arith) (at .loop .k) (at .loop .at) (omega arith) ∙ at .loop .inv .2
+
+pub check-tables-spec : {M : Type 1} → statement M
+check-tables-spec =
+    tie.close
+    (tie.spec
+    Inv-loop
+    μ-loop
+    word-requires
+    table-count-requires
+    add-at
+    loop-holds
+    add-word
+    word-requires-2
+    check-pairs-requires
+    enum-told
+    returns
+    mul-at
+    add-at-2
+    add-k
+    loop-less
+    loop-again
+    returns-2)

@@ -1,0 +1,87 @@
+-- `feed::sum_counts` meets its contract. The loop's invariant: the check from the count k on, with the sum so far, is that of all counts.
+-- Assumes nothing.
+use mathlib.Core.Path.{_≡_, _∙_, ap}
+use Prim.Native.Nat.{ℕ, _+_, _*_, _-_, _≤_}
+use native.Mathlib.Omega.{arith}
+use Rattle.tables.specs.Lists.{total}
+use Rattle.feed.specs.Feed.{counts, checkCounts}
+use Rattle.feed.specs.Answers.{countsFound}
+use Rattle.feed.proofs.Checks.{countsLeft, counts-start, counts-over, counts-pass, counts-end}
+use Rattle.feed.proofs.sum_counts.Statement.{statement}
+use Rattle.feed.proofs.sum_counts.Tie as tie
+
+abbrev Inv-loop : tie.InvT-loop
+Inv-loop feed n sum₀ k₀ sum k = (k ≤ n) × (sum ≤ 4096 * k) × (countsLeft feed sum k ≡ countsFound (checkCounts 2 (counts feed)) (total (counts feed)))
+
+abbrev μ-loop : tie.MeasureT-loop
+μ-loop feed n sum₀ k₀ sum k = n - k
+
+table-count-requires : tie.Need-table-count-requires Inv-loop μ-loop
+table-count-requires c κs = omega arith
+
+loop-holds : tie.Need-loop-holds Inv-loop μ-loop
+loop-holds c = (omega arith, omega arith, counts-start (c .before .before .args .feed .now))
+
+add-word : tie.Need-add-word Inv-loop μ-loop
+add-word c = omega arith
+
+word-requires : tie.Need-word-requires Inv-loop μ-loop
+word-requires c κs = omega arith
+
+add-t8 : tie.Need-add-t8 Inv-loop μ-loop
+add-t8 c = omega arith
+
+cast-t9 : tie.Need-cast-t9 Inv-loop μ-loop
+cast-t9 c = omega arith
+
+returns : tie.Need-returns Inv-loop μ-loop
+returns c =
+    let at = c .before .before .before in
+    let feed = at .before .before .before .args .feed .now in
+    counts-over feed (omega arith) (at .loop .sum) (at .loop .k) (omega arith) (omega arith) ∙ at .loop .inv .2
+
+add-sum : tie.Need-add-sum Inv-loop μ-loop
+add-sum c = omega arith
+
+add-k : tie.Need-add-k Inv-loop μ-loop
+add-k c = omega arith
+
+loop-less : tie.Need-loop-less Inv-loop μ-loop
+loop-less c = omega arith
+
+loop-again : tie.Need-loop-again Inv-loop μ-loop
+loop-again c =
+    let at = c .before .before .before in
+    let feed = at .before .before .before .args .feed .now in
+    let k = at .loop .k in (
+      omega arith,
+      omega arith,
+      ap (λ (n : ℕ). countsLeft feed (at .loop .sum + n) (k + 1)) (c .before .word .ensures)
+          ∙ counts-pass feed (omega arith) (at .loop .sum) k (omega arith) (omega arith)
+          ∙ at .loop .inv .2,
+    )
+
+returns-2 : tie.Need-returns-2 Inv-loop μ-loop
+returns-2 c =
+    let at = c .before in
+    let feed = at .before .before .before .args .feed .now in
+    counts-end feed (omega arith) (at .loop .sum) (at .loop .k) (omega arith) ∙ at .loop .inv .2
+
+pub sum-counts-spec : {M : Type 1} → statement M
+sum-counts-spec =
+    tie.close
+    (tie.spec
+    Inv-loop
+    μ-loop
+    table-count-requires
+    loop-holds
+    add-word
+    word-requires
+    add-t8
+    cast-t9
+    returns
+    add-sum
+    add-k
+    loop-less
+    loop-again
+    returns-2)
