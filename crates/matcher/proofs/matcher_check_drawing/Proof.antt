@@ -1,0 +1,19 @@
+-- `matcher::matcher_check_drawing` meets its contract.
+-- Assumes nothing.
+use Rattle.matcher.proofs.Says.{says-same}
+use borrow.Author.Needs.{needs}
+use Rattle.matcher.proofs.matcher_check_drawing.Statement.{statement}
+use Rattle.matcher.proofs.matcher_check_drawing.Tie as tie
+
+check-drawing-requires : tie.Need-check-drawing-requires
+check-drawing-requires c κs = search needs
+
+say-drawing-requires : tie.Need-say-drawing-requires
+say-drawing-requires c κs = search needs
+
+returns : tie.Need-returns
+returns c = says-same (c .before .before .check-drawing .ensures) (c .say-drawing .ensures)
+
+pub matcher-check-drawing-spec : {M : Type 1} → statement M
+matcher-check-drawing-spec =
+    tie.close (tie.spec check-drawing-requires say-drawing-requires returns)
