@@ -2,7 +2,6 @@
 
 use drawing::DrawingCheck;
 use feed::FeedCheck;
-
 ghost use Rattle.feed.specs.Feed.{checkFeed};
 ghost use Rattle.feed.specs.Answers.{feedVerdict};
 ghost use Rattle.drawing.specs.Drawing.{checkDrawing};
