@@ -6,43 +6,102 @@ use crate::model;
 use crate::random::Random;
 use crate::Tally;
 
+/// Two changes of one valid input, alone and together: the verdicts of the two causes, and the words with both.
+fn twice_damaged(r: &mut Random, valid: &[u32], check: impl Fn(&[u32]) -> model::Verdict) -> (u32, u32, Vec<u32>) {
+    let (first, second) = (r.next(), r.next());
+    let damaged = |seeds: &[u64]| {
+        let mut words = valid.to_vec();
+        for &seed in seeds {
+            cases::damage(&mut Random::new(seed), &mut words);
+        }
+        words
+    };
+    let both = damaged(&[first, second]);
+    (check(&damaged(&[first])).0, check(&damaged(&[second])).0, both)
+}
+
+/// Which pairs of causes were met, in either order, and how often the first number or the second was the answer.
+struct Causes {
+    met: std::collections::BTreeSet<(u32, u32)>,
+}
+
+impl Causes {
+    fn note(&mut self, a: u32, b: u32) {
+        if a != 0 && b != 0 && a != b {
+            self.met.insert((a, b));
+        }
+    }
+
+    /// Every ordered pair of different numbers from low to high must have been met.
+    fn show(&self, tally: &mut Tally, what: &str, low: u32, high: u32) {
+        let n = (high - low + 1) as usize;
+        let found = self.met.iter().filter(|(a, b)| (low..=high).contains(a) && (low..=high).contains(b)).count();
+        println!("{what}: {found} of {} orders of two causes", n * (n - 1));
+        tally.same(what, &found, &(n * (n - 1)), &[]);
+    }
+}
+
 pub fn feeds(tally: &mut Tally, cases: usize) {
     let mut r = Random::new(1);
     let mut met = [0usize; 5];
-    for _ in 0..cases {
-        let mut feed = cases::feed(&mut r);
-        for _ in 0..r.below(3) {
-            cases::damage(&mut r, &mut feed);
-        }
+    let mut causes = Causes { met: Default::default() };
+    for i in 0..cases {
+        let valid = cases::feed(&mut r);
+        let feed = match i % 3 {
+            0 => valid,
+            1 => {
+                let mut feed = valid;
+                cases::damage(&mut r, &mut feed);
+                feed
+            }
+            _ => {
+                let (a, b, both) = twice_damaged(&mut r, &valid, model::check_feed);
+                causes.note(a, b);
+                both
+            }
+        };
         let expected = model::check_feed(&feed);
         met[expected.0 as usize] += 1;
         tally.same("check_feed", &matcher::check_feed(&feed), &expected, &feed);
     }
     tally.met("feeds by number", &met);
+    causes.show(tally, "feeds", 1, 4);
 }
 
 pub fn drawings(tally: &mut Tally, cases: usize) {
     let mut r = Random::new(2);
     let mut met = [0usize; 8];
-    for _ in 0..cases {
+    let mut causes = Causes { met: Default::default() };
+    for i in 0..cases {
         let mut feed = cases::feed(&mut r);
-        let mut drawing = cases::drawing(&mut r, &feed, 13, 26);
+        let mut valid = cases::drawing(&mut r, &feed, 13, 26);
         if r.one_in(8) {
             cases::damage(&mut r, &mut feed);
         }
-        for _ in 0..r.below(3) {
-            cases::damage(&mut r, &mut drawing);
-        }
         if r.one_in(20) {
-            for pick in drawing.iter_mut().skip(3).step_by(2) {
+            for pick in valid.iter_mut().skip(3).step_by(2) {
                 *pick = 0;
             }
         }
+        let drawing = match i % 3 {
+            0 => valid,
+            1 => {
+                let mut drawing = valid;
+                cases::damage(&mut r, &mut drawing);
+                drawing
+            }
+            _ => {
+                let (a, b, both) = twice_damaged(&mut r, &valid, |d| model::check_drawing(&feed, d));
+                causes.note(a, b);
+                both
+            }
+        };
         let expected = model::check_drawing(&feed, &drawing);
         met[expected.0 as usize] += 1;
         tally.same("check_drawing", &matcher::check_drawing(&feed, &drawing), &expected, &drawing);
     }
     tally.met("drawings by number", &met);
+    causes.show(tally, "drawings", 5, 6);
 }
 
 /// Every ceiling, met and passed by one.

@@ -1,6 +1,7 @@
 //! Tests of the proved matcher from outside: each call against a plain Rust reading of document 01, on many random inputs.
 //! Prints how often each number was met; the last line is 'N passed, M failed'.
 
+#[allow(dead_code)]
 mod cases;
 mod checks;
 mod matcher;
