@@ -1,0 +1,39 @@
+-- Cases: sheets as text, each with the listing that document 01 fixes for it.
+-- Assumes nothing.
+use mathlib.Core.List.{List, [], _∷_}
+use Prim.Native.String.{String}
+
+pub record Case : Type 0 where
+  pub sheet : String
+  pub listing : String
+
+unfoldable pub case : String → String → Case
+case s l = record { sheet = s; listing = l }
+
+unfoldable pub sheets : List Case
+sheets =
+    -- the sample of document 01
+    case
+    "class object\nregion 1\nregion 2\nregion 3\nregion 4\n\nlabel from to\ntouch 1 2\ntouch 2 3\ntouch 3 4\n\nnode class pick\na region 1\nm region 0\nb region 1\n\nedge source target\ntouch a m\ntouch m b\n"
+    "a b\n1 3\n2 4\n"
+    -- classes are numbered by first appearance, and their lines regrouped; no rows print the names only
+    ∷ case "class object\nb 1\na 2\nb 3\n\nlabel from to\n\nnode class pick\nx b 1\n\nedge source target\n" "x\n1\n3\n"
+    ∷ case "class object\na 1\n\nlabel from to\nl 2 2\n\nnode class pick\nx a 1\n\nedge source target\nl x x\n" "x\n"
+    -- a missing line is the one after the last; a last line without its line feed; a name line that is not the one shown
+    ∷ case "" "refused 14 1\n"
+    ∷ case "class object" "refused 14 1\n"
+    ∷ case "class object\na 1\n\nlabel from to\n\nnode class pick\nx a 1\n" "refused 14 8\n"
+    ∷ case "class object\n\nnode class pick\n" "refused 14 3\n"
+    -- a leading zero; a name of 13 letters; two spaces; an unknown class; a doubled node; an unknown label
+    ∷ case "class object\na 01\n" "refused 14 2\n"
+    ∷ case "class object\nabcdefghijklm 1\n" "refused 14 2\n"
+    ∷ case "class object\na  1\n" "refused 14 2\n"
+    ∷ case "class object\na 1\n\nlabel from to\n\nnode class pick\nx c 1\n" "refused 14 7\n"
+    ∷ case "class object\na 1\n\nlabel from to\n\nnode class pick\nx a 1\nx a 0\n" "refused 14 8\n"
+    ∷ case "class object\na 1\n\nlabel from to\n\nnode class pick\nx a 1\n\nedge source target\nl x x\n" "refused 14 10\n"
+    -- what the derived feed and drawing refuse
+    ∷ case "class object\na 2\na 1\n\nlabel from to\n\nnode class pick\nx a 1\n\nedge source target\n" "refused 3 5\n"
+    ∷ case "class object\na 65536\n\nlabel from to\n\nnode class pick\nx a 1\n\nedge source target\n" "refused 3 3\n"
+    ∷ case "class object\na 1\n\nlabel from to\n\nnode class pick\nx a 2\n\nedge source target\n" "refused 6 3\n"
+    ∷ case "class object\na 1\n\nlabel from to\n\nnode class pick\nx a 0\n\nedge source target\n" "refused 7 0\n"
+    ∷ []

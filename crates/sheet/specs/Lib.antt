@@ -1,0 +1,4 @@
+pub mod Cases
+pub mod Listing
+pub mod Sheet
+pub mod Text
