@@ -20,6 +20,12 @@ uint32_t matcher_check_feed(const uint32_t *feed, size_t feed_len, uint32_t *pla
 /* Checks a feed, then a drawing: 1 to 7. */
 uint32_t matcher_check_drawing(const uint32_t *feed, size_t feed_len, const uint32_t *drawing, size_t drawing_len, uint32_t *place);
 
+/* Checks a feed and an instruction list, then runs the list: 1 to 4 and 8 to 11. The work slice takes two words a pair. Once the run
+ * begins, and whether or not it is stopped, the slice holds the finished registers in order, then zeros; until then no word is written.
+ * Zeroing takes time, too: lend near the need. Needs some 600 KiB of stack. */
+uint32_t matcher_run(const uint32_t *feed, size_t feed_len, const uint32_t *list, size_t list_len, uint32_t *work, size_t work_len,
+                     uint32_t *place);
+
 #ifdef __cplusplus
 }
 #endif
