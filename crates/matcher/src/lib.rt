@@ -1,113 +1,21 @@
 // The matcher's calls for C and Rust: a slice is a pointer, then a length.
 
-use algebra::InstructionCheck;
-use drawing::DrawingCheck;
-use feed::FeedCheck;
-use run::RunCheck;
+use answers::say_drawing;
+use answers::say_feed;
+use answers::say_run;
+use answers::say_translation;
+use query::say_query;
+use translate::TranslationCheck;
 ghost use mathlib.Core.Path.{_≡_};
 ghost use Rattle.feed.specs.Feed.{checkFeed};
-ghost use Rattle.feed.specs.Answers.{feedVerdict};
 ghost use Rattle.drawing.specs.Drawing.{checkDrawing};
-ghost use Rattle.drawing.specs.Answers.{drawingVerdict};
-ghost use Rattle.algebra.specs.Answers.{instructionVerdict};
 ghost use Rattle.algebra.specs.Run.{run};
-ghost use Rattle.run.specs.Answers.{runCheckVerdict};
-ghost use Rattle.matcher.specs.Answers.{Says};
-
-// Number and place of a feed's check.
-fn say_feed(answer: FeedCheck, place: &mut u32) -> u32
-    ensures { λ r. ⌜ Says (feedVerdict answer) r (now (place .exit)) ⌝ }
-{
-    match answer {
-        FeedCheck::Accepted => {
-            *place = 0;
-            0
-        }
-        FeedCheck::Length => {
-            *place = 0;
-            1
-        }
-        FeedCheck::Ceiling(p) => {
-            *place = p;
-            2
-        }
-        FeedCheck::Ascent(p) => {
-            *place = p;
-            3
-        }
-        FeedCheck::Sides(p) => {
-            *place = p;
-            4
-        }
-    }
-}
-
-// Number and place of a drawing's check.
-fn say_drawing(answer: DrawingCheck, place: &mut u32) -> u32
-    ensures { λ r. ⌜ Says (drawingVerdict answer) r (now (place .exit)) ⌝ }
-{
-    match answer {
-        DrawingCheck::Accepted => {
-            *place = 0;
-            0
-        }
-        DrawingCheck::Feed(f) => say_feed(f, place),
-        DrawingCheck::Length => {
-            *place = 0;
-            5
-        }
-        DrawingCheck::Missing(p) => {
-            *place = p;
-            6
-        }
-        DrawingCheck::Unpicked => {
-            *place = 0;
-            7
-        }
-    }
-}
-
-// Number and place of an instruction list's check.
-fn say_list(answer: InstructionCheck, place: &mut u32) -> u32
-    ensures { λ r. ⌜ Says (instructionVerdict answer) r (now (place .exit)) ⌝ }
-{
-    match answer {
-        InstructionCheck::Accepted => {
-            *place = 0;
-            0
-        }
-        InstructionCheck::Feed(f) => say_feed(f, place),
-        InstructionCheck::Length => {
-            *place = 0;
-            8
-        }
-        InstructionCheck::Invalid(i) => {
-            *place = i;
-            9
-        }
-    }
-}
-
-// Number and place of a run.
-fn say_run(answer: RunCheck, place: &mut u32) -> u32
-    ensures { λ r. ⌜ Says (runCheckVerdict answer) r (now (place .exit)) ⌝ }
-{
-    match answer {
-        RunCheck::Finished => {
-            *place = 0;
-            0
-        }
-        RunCheck::List(l) => say_list(l, place),
-        RunCheck::Full(i) => {
-            *place = i;
-            10
-        }
-        RunCheck::Large(i) => {
-            *place = i;
-            11
-        }
-    }
-}
+ghost use Rattle.translator.specs.Translation.{translate};
+ghost use Rattle.translate.specs.Answers.{instructionsIn};
+ghost use Rattle.query.specs.Query.{query};
+ghost use Rattle.query.specs.Answers.{slices};
+ghost use Rattle.answers.specs.Says.{Says};
+ghost use Rattle.matcher.specs.Calls.{Translates, Answers};
 
 // Checks a feed: 1 to 4.
 #[no_mangle]
@@ -132,4 +40,49 @@ pub extern "C" fn matcher_run(feed: &[u32], list: &[u32], work: &mut [u32], plac
         ∗ ⌜ now (work .exit) ≡ run (now (feed .entry)) (now (list .entry)) (now (work .entry)) .work ⌝ }
 {
     say_run(run::run(feed, list, work), place)
+}
+
+// How many instructions a translation has written.
+fn written(answer: TranslationCheck) -> usize
+    ensures { λ r. ⌜ r ≡ instructionsIn answer ⌝ }
+{
+    match answer {
+        TranslationCheck::Done(n) => n as usize,
+        _ => 0,
+    }
+}
+
+// Checks a feed and a drawing, then translates the drawing: 1 to 7 and 13.
+#[no_mangle]
+pub extern "C" fn matcher_translate(
+    feed: &[u32],
+    drawing: &[u32],
+    list: &mut [u32],
+    place: &mut u32,
+    instructions: &mut usize,
+) -> u32
+    ensures { λ r. ⌜ Translates (translate (now (feed .entry)) (now (drawing .entry)) (now (list .entry))) r (now (place .exit)) (now (list .exit)) (now (instructions .exit)) ⌝ }
+{
+    let answer = translate::translate(feed, drawing, list);
+    *instructions = written(answer);
+    say_translation(answer, place)
+}
+
+// Checks a feed and a drawing, translates the drawing, runs the translation and gives the rows: 1 to 7 and 10 to 13.
+#[no_mangle]
+pub extern "C" fn matcher_query(
+    feed: &[u32],
+    drawing: &[u32],
+    list: &mut [u32],
+    work: &mut [u32],
+    rows: &mut [u32],
+    place: &mut u32,
+    extent: &mut usize,
+) -> u32
+    ensures { λ r. ⌜ Answers (query (now (feed .entry)) (now (drawing .entry)) (slices (now (list .entry)) (now (work .entry)) (now (rows .entry)))) r (now (place .exit))
+        (now (list .exit)) (now (work .exit)) (now (rows .exit)) (now (extent .exit)) ⌝ }
+{
+    let answer = query::query_into(feed, drawing, list, work, rows);
+    *extent = query::extent(answer);
+    say_query(answer, place)
 }

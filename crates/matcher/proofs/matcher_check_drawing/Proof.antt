@@ -1,6 +1,6 @@
 -- `matcher::matcher_check_drawing` meets its contract.
 -- Assumes nothing.
-use Rattle.matcher.proofs.Says.{says-same}
+use Rattle.answers.proofs.Said.{says-same}
 use borrow.Author.Needs.{needs}
 use Rattle.matcher.proofs.matcher_check_drawing.Statement.{statement}
 use Rattle.matcher.proofs.matcher_check_drawing.Tie as tie

@@ -1,7 +1,7 @@
 -- `matcher::matcher_check_feed` meets its contract.
 -- Assumes nothing.
 use borrow.Author.Needs.{needs}
-use Rattle.matcher.proofs.Says.{says-same}
+use Rattle.answers.proofs.Said.{says-same}
 use Rattle.matcher.proofs.matcher_check_feed.Statement.{statement}
 use Rattle.matcher.proofs.matcher_check_feed.Tie as tie
 

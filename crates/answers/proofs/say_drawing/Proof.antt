@@ -1,11 +1,11 @@
--- `matcher::say_drawing` meets its contract, answer by answer.
+-- `answers::say_drawing` meets its contract, answer by answer.
 -- Assumes nothing.
 use Rattle.drawing.specs.Answers.{drawingVerdict}
-use Rattle.matcher.proofs.Says.{says-accepted, says-refused, says-same}
+use Rattle.answers.proofs.Said.{says-accepted, says-refused, says-same}
 use borrow.Author.Needs.{needs}
 use mathlib.Core.Path.{sym, ap}
-use Rattle.matcher.proofs.say_drawing.Statement.{statement}
-use Rattle.matcher.proofs.say_drawing.Tie as tie
+use Rattle.answers.proofs.say_drawing.Statement.{statement}
+use Rattle.answers.proofs.say_drawing.Tie as tie
 
 enum-told : tie.Need-enum-told
 enum-told c = search needs

@@ -1,11 +1,11 @@
--- `matcher::say_feed` meets its contract, answer by answer.
+-- `answers::say_feed` meets its contract, answer by answer.
 -- Assumes nothing.
 use Rattle.feed.specs.Answers.{feedVerdict}
-use Rattle.matcher.proofs.Says.{says-accepted, says-refused}
+use Rattle.answers.proofs.Said.{says-accepted, says-refused}
 use borrow.Author.Needs.{needs}
 use mathlib.Core.Path.{ap}
-use Rattle.matcher.proofs.say_feed.Statement.{statement}
-use Rattle.matcher.proofs.say_feed.Tie as tie
+use Rattle.answers.proofs.say_feed.Statement.{statement}
+use Rattle.answers.proofs.say_feed.Tie as tie
 
 enum-told : tie.Need-enum-told
 enum-told c = search needs

@@ -1,11 +1,11 @@
--- `matcher::say_run` meets its contract, answer by answer.
+-- `answers::say_run` meets its contract, answer by answer.
 -- Assumes nothing.
 use Rattle.run.specs.Answers.{runCheckVerdict}
-use Rattle.matcher.proofs.Says.{says-accepted, says-refused, says-same}
+use Rattle.answers.proofs.Said.{says-accepted, says-refused, says-same}
 use mathlib.Core.Path.{sym, ap}
 use borrow.Author.Needs.{needs}
-use Rattle.matcher.proofs.say_run.Statement.{statement}
-use Rattle.matcher.proofs.say_run.Tie as tie
+use Rattle.answers.proofs.say_run.Statement.{statement}
+use Rattle.answers.proofs.say_run.Tie as tie
 
 enum-told : tie.Need-enum-told
 enum-told c = search needs

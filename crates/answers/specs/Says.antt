@@ -1,4 +1,4 @@
--- Answers: a call's number and place. "A call gives a number and a place: 0 and 0 when accepted" (document 01, Refusals).
+-- Says: a call's number and place. "A call gives a number and a place: 0 and 0 when accepted" (document 01, Refusals).
 -- Assumes nothing.
 use Prim.Native.Nat.{ℕ}
 use mathlib.Core.Path.{_≡_}

@@ -1,0 +1,24 @@
+-- Calls: what the translation's and the query's call leave behind the pointers that they were given.
+--
+-- In order: a translation; a query.
+-- Assumes nothing.
+use Prim.Native.Nat.{ℕ}
+use mathlib.Core.Path.{_≡_}
+use mathlib.Core.List.{List}
+use Rattle.translator.specs.Translation.{Translated}
+use Rattle.query.specs.Query.{Answer}
+use Rattle.answers.specs.Says.{Says}
+
+-- number and place, every word of the list, and how many instructions it has
+pub record Translates (t : Translated) (n p : ℕ) (list₁ : List ℕ) (count : ℕ) : Type 0 where
+  pub says : Says (t .verdict) n p
+  pub list : list₁ ≡ t .list
+  pub instructions : count ≡ t .instructions
+
+-- number and place, every word of the three slices, and how many words of the last are the rows
+pub record Answers (a : Answer) (n p : ℕ) (list₁ work₁ rows₁ : List ℕ) (words : ℕ) : Type 0 where
+  pub says : Says (a .verdict) n p
+  pub list : list₁ ≡ a .list
+  pub work : work₁ ≡ a .work
+  pub rows : rows₁ ≡ a .out
+  pub extent : words ≡ a .extent
