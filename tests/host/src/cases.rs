@@ -1,5 +1,6 @@
 //! Random feeds, drawings and instruction lists: valid ones, and the same damaged.
 
+use crate::model;
 use crate::random::Random;
 use std::collections::BTreeSet;
 
@@ -84,26 +85,167 @@ pub fn damage(r: &mut Random, words: &mut Vec<u32>) {
     }
 }
 
+/// One random instruction, number i of a list over a feed: valid where the feed has tables. `near` is the first register of a few among
+/// which half of the operands are drawn.
+fn instruction(r: &mut Random, feed: &[u32], i: usize, near: usize) -> [u32; 3] {
+    let (classes, labels) = (feed.first().copied().unwrap_or(0) as usize, feed.get(1).copied().unwrap_or(0) as usize);
+    let kind = if i == 0 || r.one_in(5) {
+        if labels > 0 && (classes == 0 || r.one_in(2)) { 1 } else { 0 }
+    } else {
+        2 + r.below(14)
+    };
+    let earlier = |r: &mut Random| if r.one_in(2) { r.below(i) as u32 } else { (near + r.below(i - near)) as u32 };
+    let (a, b) = match kind {
+        0 => (r.below(classes) as u32, 0),
+        1 => (r.below(labels) as u32, 0),
+        3 | 4 | 5 | 6 | 10 => (earlier(r), earlier(r)),
+        // a number of the feed, a tag of an early register, a tag of any
+        14 | 15 => {
+            let tag = 65_536 * (1 + if r.one_in(2) { r.below(i.min(3)) } else { r.below(i) }) + r.below(9);
+            (earlier(r), if r.one_in(2) { tag as u32 } else { r.below(8) as u32 })
+        }
+        _ => (earlier(r), 0),
+    };
+    [kind as u32, a, b]
+}
+
 /// An instruction list over a feed, valid where the feed has tables.
 pub fn list(r: &mut Random, feed: &[u32], most: usize) -> Vec<u32> {
-    let (classes, labels) = (feed.first().copied().unwrap_or(0) as usize, feed.get(1).copied().unwrap_or(0) as usize);
     let n = 1 + r.below(most);
+    (0..n).flat_map(|i| instruction(r, feed, i, i.saturating_sub(4))).collect()
+}
+
+/// A list over an accepted feed whose registers are seldom empty and seldom over `cap` pairs; one that is over ends the list.
+pub fn lively_list(r: &mut Random, feed: &[u32], most: usize, cap: usize) -> Vec<u32> {
+    let tables = model::read_feed(feed);
+    let mut done: Vec<model::Table> = Vec::new();
     let mut words = Vec::new();
-    for i in 0..n {
-        let kind = if i == 0 || r.one_in(5) {
-            if labels > 0 && (classes == 0 || r.one_in(2)) { 1 } else { 0 }
-        } else {
-            2 + r.below(14)
+    let n = 1 + r.below(most);
+    while done.len() < n {
+        let mut draw = || {
+            let w = instruction(r, feed, done.len(), done.len().saturating_sub(4));
+            let table = model::result(&tables, &done, &w, 65_536);
+            (w, table)
         };
-        let earlier = |r: &mut Random| if i < 4 || r.one_in(2) { r.below(i) as u32 } else { (i - 1 - r.below(4)) as u32 };
-        let (a, b) = match kind {
-            0 => (r.below(classes) as u32, 0),
-            1 => (r.below(labels) as u32, 0),
-            3 | 4 | 5 | 6 | 10 => (earlier(r), earlier(r)),
-            14 | 15 => (earlier(r), if r.one_in(3) { 65_536 + r.below(9) as u32 } else { r.below(8) as u32 }),
-            _ => (earlier(r), 0),
+        let mut drawn = draw();
+        for _ in 0..4 {
+            if drawn.1.is_empty() || drawn.1.len() > cap {
+                drawn = draw();
+            }
+        }
+        words.extend(drawn.0);
+        if drawn.1.len() > cap {
+            break;
+        }
+        done.push(drawn.1);
+    }
+    words
+}
+
+/// A list that grows fast: tables, then crosses of their tags, over and over, to more than 65,536 pairs where the first have some.
+pub fn growing_list(r: &mut Random, feed: &[u32]) -> Vec<u32> {
+    let mut words = lively_list(r, feed, 4, 400);
+    for _ in 0..3 + r.below(3) {
+        let i = words.len() as u32 / 3;
+        let tag = 7 + r.below(3) as u32;
+        words.extend([tag, i - 1, 0, 10, i, if r.one_in(3) { r.below(i as usize) as u32 } else { i }]);
+    }
+    words
+}
+
+// ---- large ones
+
+/// The words of a feed with these tables.
+pub fn feed_of(classes: &[model::Table], labels: &[model::Table]) -> Vec<u32> {
+    let tables = || classes.iter().chain(labels);
+    let mut feed = vec![classes.len() as u32, labels.len() as u32];
+    feed.extend(tables().map(|t| t.len() as u32));
+    feed.extend(tables().flatten().flat_map(|&(u, v)| [u, v]));
+    feed
+}
+
+/// A class of the objects from `low` on, so many.
+pub fn class(low: u32, count: u32) -> model::Table {
+    (low..low + count).map(|u| (u, u)).collect()
+}
+
+/// Up to 4,096 pairs of one of eight shapes.
+pub fn large_table(r: &mut Random, shape: usize) -> model::Table {
+    let most = if r.one_in(3) { 4096 } else { 1 + r.below(4096) } as u32;
+    let hub = r.below(300) as u32;
+    let low = if r.one_in(4) { 61_440 } else { r.below(300) as u32 };
+    match shape {
+        // hubs: one left value, one right value, both
+        0 => (0..most).map(|i| (hub, low + i)).collect(),
+        1 => (0..most).map(|i| (low + i, hub)).collect(),
+        2 => (0..most).map(|i| if i % 2 == 0 { (hub, low + i) } else { (low + i, hub) }).collect(),
+        // anything, among many objects or few
+        3 => (0..most).map(|_| (r.below(65_536) as u32, r.below(65_536) as u32)).collect(),
+        4 => (0..most).map(|_| (r.below(80) as u32, r.below(80) as u32)).collect(),
+        // each left value once, and few right values
+        5 => (0..most).map(|i| (low + i, i % (1 + hub))).collect(),
+        // a block, and pairs with equal sides
+        6 => (0..most).map(|i| (low + i / 64, hub + i % 64)).collect(),
+        _ => (0..most).map(|i| (low + i, low + i)).collect(),
+    }
+}
+
+/// A feed of some large labels and two classes.
+pub fn large_feed(r: &mut Random) -> Vec<u32> {
+    let one = r.below(8);
+    let mixed = r.one_in(2);
+    let labels: Vec<model::Table> = (0..2 + r.below(5))
+        .map(|_| {
+            let shape = if mixed { r.below(8) } else { one };
+            large_table(r, shape)
+        })
+        .collect();
+    // two classes, now and then such that their cross has exactly 65,536 pairs
+    let mut objects = |low: usize, most: usize| if r.one_in(3) { 256 } else { low + r.below(most) } as u32;
+    let counts = [objects(1, 300), objects(200, 60)];
+    feed_of(&[class(r.below(300) as u32, counts[0]), class(r.below(40) as u32, counts[1])], &labels)
+}
+
+/// A list over a large feed: every table is loaded, then crosses, unions and tags, then anything, mostly of the largest registers.
+pub fn large_list(r: &mut Random, feed: &[u32]) -> Vec<u32> {
+    let tables = model::read_feed(feed);
+    let mut words: Vec<u32> = (0..feed[0]).flat_map(|k| [0, k, 0]).chain((0..feed[1]).flat_map(|k| [1, k, 0])).collect();
+    let mut done = model::tables(&tables, &words);
+    let mut pairs: usize = done.iter().map(|t| t.len()).sum();
+    let n = done.len() + 4 + r.below(10);
+    while done.len() < n && pairs < 400_000 {
+        let i = done.len();
+        let mut by_size: Vec<usize> = (0..i).collect();
+        by_size.sort_by_key(|&k| std::cmp::Reverse(done[k].len()));
+        let largest = |r: &mut Random| by_size[r.below(i.min(3))] as u32;
+        let any = |r: &mut Random| if r.one_in(2) { largest(r) } else { r.below(i) as u32 };
+        let kind = if i < n - 6 && r.one_in(2) { [5, 5, 5, 3, 7, 8][r.below(6)] } else { 2 + r.below(14) } as u32;
+        // of a cross mostly the small ones, which are large enough; of a union rather the large ones
+        let operand = |r: &mut Random| match kind {
+            10 if !r.one_in(4) => by_size[i - 1 - r.below(i.min(3))] as u32,
+            5 if r.one_in(2) => largest(r),
+            _ => any(r),
         };
-        words.extend([kind as u32, a, b]);
+        let a = operand(r);
+        let b = match kind {
+            3 | 4 | 5 | 6 | 10 => operand(r),
+            // a value that stands in the table
+            14 | 15 => {
+                let at = r.below(done[a as usize].len());
+                done[a as usize].iter().nth(at).map_or(7, |p| if kind == 14 { p.0 } else { p.1 })
+            }
+            _ => 0,
+        };
+        let table = model::result(&tables, &done, &[kind, a, b], 65_536);
+        if table.is_empty() && !r.one_in(5) {
+            continue;
+        }
+        words.extend([kind, a, b]);
+        if table.len() > 65_536 {
+            break;
+        }
+        pairs += table.len();
+        done.push(table);
     }
     words
 }

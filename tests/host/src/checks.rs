@@ -7,7 +7,7 @@ use crate::random::Random;
 use crate::Tally;
 
 /// Two changes of one valid input, alone and together: the verdicts of the two causes, and the words with both.
-fn twice_damaged(r: &mut Random, valid: &[u32], check: impl Fn(&[u32]) -> model::Verdict) -> (u32, u32, Vec<u32>) {
+pub fn twice_damaged(r: &mut Random, valid: &[u32], check: impl Fn(&[u32]) -> model::Verdict) -> (u32, u32, Vec<u32>) {
     let (first, second) = (r.next(), r.next());
     let damaged = |seeds: &[u64]| {
         let mut words = valid.to_vec();
@@ -20,13 +20,14 @@ fn twice_damaged(r: &mut Random, valid: &[u32], check: impl Fn(&[u32]) -> model:
     (check(&damaged(&[first])).0, check(&damaged(&[second])).0, both)
 }
 
-/// Which pairs of causes were met, in either order, and how often the first number or the second was the answer.
-struct Causes {
+/// Which pairs of causes were met, in either order.
+#[derive(Default)]
+pub struct Causes {
     met: std::collections::BTreeSet<(u32, u32)>,
 }
 
 impl Causes {
-    fn note(&mut self, a: u32, b: u32) {
+    pub fn note(&mut self, a: u32, b: u32) {
         if a != 0 && b != 0 && a != b {
             self.met.insert((a, b));
         }
@@ -34,17 +35,23 @@ impl Causes {
 
     /// Every ordered pair of different numbers from low to high must have been met.
     fn show(&self, tally: &mut Tally, what: &str, low: u32, high: u32) {
-        let n = (high - low + 1) as usize;
-        let found = self.met.iter().filter(|(a, b)| (low..=high).contains(a) && (low..=high).contains(b)).count();
-        println!("{what}: {found} of {} orders of two causes", n * (n - 1));
-        tally.same(what, &found, &(n * (n - 1)), &[]);
+        let all: Vec<u32> = (low..=high).collect();
+        self.show_pairs(tally, what, &all, &all);
+    }
+
+    /// Every pair of a number of the first list and another of the second must have been met.
+    pub fn show_pairs(&self, tally: &mut Tally, what: &str, first: &[u32], second: &[u32]) {
+        let wanted = first.iter().flat_map(|&a| second.iter().map(move |&b| (a, b))).filter(|(a, b)| a != b);
+        let (met, missed): (Vec<_>, Vec<_>) = wanted.partition(|pair| self.met.contains(pair));
+        println!("{what}: {} of {} orders of two causes", met.len(), met.len() + missed.len());
+        tally.same(what, &missed, &Vec::new(), &[]);
     }
 }
 
 pub fn feeds(tally: &mut Tally, cases: usize) {
     let mut r = Random::new(1);
     let mut met = [0usize; 5];
-    let mut causes = Causes { met: Default::default() };
+    let mut causes = Causes::default();
     for i in 0..cases {
         let valid = cases::feed(&mut r);
         let feed = match i % 3 {
@@ -71,7 +78,7 @@ pub fn feeds(tally: &mut Tally, cases: usize) {
 pub fn drawings(tally: &mut Tally, cases: usize) {
     let mut r = Random::new(2);
     let mut met = [0usize; 8];
-    let mut causes = Causes { met: Default::default() };
+    let mut causes = Causes::default();
     for i in 0..cases {
         let mut feed = cases::feed(&mut r);
         let mut valid = cases::drawing(&mut r, &feed, 13, 26);

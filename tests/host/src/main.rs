@@ -8,6 +8,7 @@ mod matcher;
 #[allow(dead_code)]
 mod model;
 mod random;
+mod runs;
 
 use std::fmt::Debug;
 
@@ -32,9 +33,15 @@ impl Tally {
 
     /// How often each number was met; one that was never met is a failure, for then the test shows nothing of it.
     pub fn met(&mut self, what: &str, counts: &[usize]) {
-        let shown: Vec<String> = counts.iter().enumerate().map(|(i, n)| format!("{i}: {n}")).collect();
+        let all: Vec<usize> = (0..counts.len()).collect();
+        self.met_of(what, counts, &all);
+    }
+
+    /// The same for some of the numbers.
+    pub fn met_of(&mut self, what: &str, counts: &[usize], numbers: &[usize]) {
+        let shown: Vec<String> = numbers.iter().map(|&i| format!("{i}: {}", counts[i])).collect();
         println!("{what}: {}", shown.join(", "));
-        self.same(what, &counts.iter().all(|&n| n > 0), &true, &[]);
+        self.same(what, &numbers.iter().all(|&i| counts[i] > 0), &true, &[]);
     }
 }
 
@@ -43,6 +50,11 @@ fn main() {
     checks::feeds(&mut tally, 200_000);
     checks::drawings(&mut tally, 200_000);
     checks::ceilings(&mut tally);
+    runs::belt(&mut tally);
+    runs::edges(&mut tally);
+    runs::random(&mut tally, 300_000);
+    runs::long(&mut tally, 1_000);
+    runs::large(&mut tally, 800);
     println!("{} passed, {} failed", tally.passed, tally.failed);
     std::process::exit((tally.failed > 0) as i32);
 }

@@ -3,6 +3,15 @@
 extern "C" {
     fn matcher_check_feed(feed: *const u32, feed_len: usize, place: *mut u32) -> u32;
     fn matcher_check_drawing(feed: *const u32, feed_len: usize, drawing: *const u32, drawing_len: usize, place: *mut u32) -> u32;
+    fn matcher_run(
+        feed: *const u32,
+        feed_len: usize,
+        list: *const u32,
+        list_len: usize,
+        work: *mut u32,
+        work_len: usize,
+        place: *mut u32,
+    ) -> u32;
 }
 
 pub fn check_feed(feed: &[u32]) -> (u32, u32) {
@@ -14,5 +23,12 @@ pub fn check_feed(feed: &[u32]) -> (u32, u32) {
 pub fn check_drawing(feed: &[u32], drawing: &[u32]) -> (u32, u32) {
     let mut place = u32::MAX;
     let number = unsafe { matcher_check_drawing(feed.as_ptr(), feed.len(), drawing.as_ptr(), drawing.len(), &mut place) };
+    (number, place)
+}
+
+pub fn run(feed: &[u32], list: &[u32], work: &mut [u32]) -> (u32, u32) {
+    let mut place = u32::MAX;
+    let number =
+        unsafe { matcher_run(feed.as_ptr(), feed.len(), list.as_ptr(), list.len(), work.as_mut_ptr(), work.len(), &mut place) };
     (number, place)
 }

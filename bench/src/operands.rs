@@ -1,0 +1,78 @@
+//! Operands of any size. A table of a feed holds at most 4,096 pairs, so a larger one is loaded in parts and united.
+
+use crate::random::Random;
+use std::collections::BTreeSet;
+
+pub type Pairs = Vec<(u32, u32)>;
+
+/// A feed and an instruction list as they are built up.
+#[derive(Default)]
+pub struct Program {
+    classes: Vec<Pairs>,
+    labels: Vec<Pairs>,
+    pub list: Vec<u32>,
+}
+
+impl Program {
+    /// One instruction more; gives its register.
+    pub fn then(&mut self, kind: u32, a: u32, b: u32) -> u32 {
+        self.list.extend([kind, a, b]);
+        self.list.len() as u32 / 3 - 1
+    }
+
+    /// A class of the feed, not loaded.
+    pub fn class(&mut self, objects: impl Iterator<Item = u32>) -> u32 {
+        self.classes.push(objects.map(|u| (u, u)).collect());
+        self.classes.len() as u32 - 1
+    }
+
+    /// A label of the feed, not loaded.
+    pub fn label(&mut self, pairs: Pairs) -> u32 {
+        self.labels.push(pairs);
+        self.labels.len() as u32 - 1
+    }
+
+    /// A register that holds these pairs, which ascend.
+    pub fn table(&mut self, pairs: &[(u32, u32)]) -> u32 {
+        if pairs.len() <= 4096 {
+            let label = self.label(pairs.to_vec());
+            return self.then(1, label, 0);
+        }
+        let parts = pairs.len().div_ceil(4096);
+        let (low, high) = pairs.split_at(parts / 2 * 4096);
+        let (a, b) = (self.table(low), self.table(high));
+        self.then(5, a, b)
+    }
+
+    pub fn feed(&self) -> Vec<u32> {
+        let tables = || self.classes.iter().chain(&self.labels);
+        let mut feed = vec![self.classes.len() as u32, self.labels.len() as u32];
+        feed.extend(tables().map(|t| t.len() as u32));
+        feed.extend(tables().flatten().flat_map(|&(u, v)| [u, v]));
+        feed
+    }
+}
+
+/// So many different pairs, ascending.
+pub fn pairs(n: usize, mut draw: impl FnMut() -> (u32, u32)) -> Pairs {
+    let mut set = BTreeSet::new();
+    while set.len() < n {
+        set.insert(draw());
+    }
+    set.into_iter().collect()
+}
+
+/// n pairs over about n / 4 objects, at random: some four pairs for each left value and each right value.
+pub fn ordinary(r: &mut Random, n: usize) -> Pairs {
+    let objects = (n / 4).max(40);
+    pairs(n, || (r.below(objects) as u32, r.below(objects) as u32))
+}
+
+/// The numbers below n in random order.
+pub fn shuffled(r: &mut Random, n: usize) -> Vec<u32> {
+    let mut all: Vec<u32> = (0..n as u32).collect();
+    for i in (1..n).rev() {
+        all.swap(i, r.below(i + 1));
+    }
+    all
+}

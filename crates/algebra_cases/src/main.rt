@@ -1,0 +1,159 @@
+// Cases of the algebra: the belt cases of document 01 that concern it, each of the sixteen kinds, and refusals. Each prints a line: its
+// name, number and place, then the words of the work slice.
+
+use matcher::matcher_run;
+ghost use Prim.Native.Nat.{_+_, _<_, _≤_};
+ghost use lib.ListN.{length};
+
+// Prints some text, then a number.
+fn print(text: &[u8], n: u32) {
+    io::write_all(1, text);
+    io::print_decimal(1, n as u64);
+}
+
+// Prints the words from number `from` on.
+fn print_words(words: &[u32], from: usize) {
+    let mut i = from;
+    while i < words.len() {
+        print(b" ", words[i]);
+        i += 1;
+    }
+}
+
+// Runs a list over a feed and prints the case's line, with the words from number `from` on.
+fn show(work: &mut [u32], name: &[u8], feed: &[u32], list: &[u32], from: usize) {
+    let mut place = 0;
+    let number = matcher_run(feed, list, work, &mut place);
+    io::write_all(1, name);
+    print(b": ", number);
+    print(b" ", place);
+    io::write_all(1, b":");
+    print_words(work, from);
+    io::write_all(1, b"\n");
+}
+
+// Register 0 = {(1,2),(1,3)}: left tag, right tag and tau. The last word is past the last pair.
+fn tags() {
+    let feed = [0u32, 1, 2, 1, 2, 1, 3];
+    let list = [1u32, 0, 0, 7, 0, 0, 8, 0, 0, 9, 0, 0];
+    let mut work = [7u32; 17];
+    show(&mut work, b"tags", &feed, &list, 0);
+}
+
+// {(1,2),(1,3)} composed with {(2,9),(3,9)}: (1,9) once. Ten words suffice.
+fn composed() {
+    let feed = [0u32, 2, 2, 2, 1, 2, 1, 3, 2, 9, 3, 9];
+    let list = [1u32, 0, 0, 1, 1, 0, 3, 0, 1];
+    let mut enough = [7u32; 10];
+    show(&mut enough, b"composed", &feed, &list, 0);
+    let mut short = [7u32; 9];
+    show(&mut short, b"composed, a word short", &feed, &list, 0);
+}
+
+// The kinds that work on one table, over the label {(1,2),(2,2),(3,1)}.
+fn one_table() {
+    let feed = [0u32, 1, 3, 1, 2, 2, 2, 3, 1];
+    let tagged = [1u32, 0, 0, 2, 0, 0, 7, 0, 0, 8, 0, 0, 9, 0, 0];
+    let mut work = [7u32; 30];
+    show(&mut work, b"inverse and tags", &feed, &tagged, 0);
+    let ends = [1u32, 0, 0, 12, 0, 0, 13, 0, 0];
+    show(&mut work, b"left and right values", &feed, &ends, 0);
+    let selected = [1u32, 0, 0, 11, 0, 0, 14, 0, 3, 15, 0, 2];
+    show(&mut work, b"selections", &feed, &selected, 0);
+}
+
+// The kinds that work on two tables, over the class {1,2} and the label {(1,2),(2,2),(3,1)}.
+fn two_tables() {
+    let feed = [1u32, 1, 2, 3, 1, 1, 2, 2, 1, 2, 2, 2, 3, 1];
+    let merged = [0u32, 0, 0, 1, 0, 0, 4, 0, 1, 5, 0, 1, 6, 1, 0];
+    let mut work = [7u32; 30];
+    show(&mut work, b"meet, union, difference", &feed, &merged, 0);
+    let joined = [0u32, 0, 0, 1, 0, 0, 3, 1, 1, 10, 1, 0];
+    show(&mut work, b"composition and cross", &feed, &joined, 0);
+}
+
+// Word i of a feed of two classes: the objects from 0 to 255, and as many from 256 on as `size` words take.
+fn word(i: usize, size: usize) -> u32
+    requires { ⌜ 516 ≤ size ⌝ ∗ ⌜ size ≤ 65536 ⌝ ∗ ⌜ i < size ⌝ }
+{
+    match i {
+        0 => 2,
+        1 => 0,
+        2 => 256,
+        3 => ((size - 516) / 2) as u32,
+        _ => ((i - 4) / 2) as u32,
+    }
+}
+
+// Writes that feed.
+fn fill(feed: &mut [u32])
+    requires { ⌜ 516 ≤ length (now feed) ⌝ ∗ ⌜ length (now feed) ≤ 65536 ⌝ }
+{
+    let size = feed.len();
+    let mut i = 0;
+    while i < size {
+        feed[i] = word(i, size);
+        i += 1;
+    }
+}
+
+// Two classes of 256 objects crossed are accepted, 256 with 257 are not. Prints the words about the end of the cross.
+fn crossed() {
+    let list = [0u32, 0, 0, 0, 1, 0, 10, 0, 1];
+    let mut work = [7u32; 132098];
+    let mut accepted = [0u32; 1028];
+    fill(&mut accepted);
+    show(&mut work, b"256 crossed with 256", &accepted, &list, 132092);
+    let mut refused = [0u32; 1030];
+    fill(&mut refused);
+    show(&mut work, b"256 crossed with 257", &refused, &list, 132092);
+}
+
+// Copies some words to the words from number `at` on.
+fn copy(to: &mut [u32], at: usize, from: &[u32])
+    requires { ⌜ at + length (now from) ≤ length (now to) ⌝ }
+{
+    let mut i = 0;
+    while i < from.len() {
+        to[at + i] = from[i];
+        i += 1;
+    }
+}
+
+// The list of document 01's sheet, its loads and the steps C and D: 33 pairs, so 66 words suffice and 65 do not.
+fn sheet() {
+    let feed = [1u32, 1, 4, 3, 1, 1, 2, 2, 3, 3, 4, 4, 1, 2, 2, 3, 3, 4];
+    let loads = [0u32, 0, 0, 0, 0, 0, 0, 0, 0, 1, 0, 0, 1, 0, 0];
+    let chain = [3u32, 3, 1, 3, 5, 4];
+    let join = [3u32, 0, 6, 3, 7, 2, 7, 8, 0, 8, 8, 0, 9, 8, 0];
+    let mut list = [0u32; 36];
+    copy(&mut list, 0, &loads);
+    copy(&mut list, 15, &chain);
+    copy(&mut list, 21, &join);
+    let mut enough = [7u32; 66];
+    show(&mut enough, b"sheet", &feed, &list, 0);
+    let mut short = [7u32; 65];
+    show(&mut short, b"sheet, a word short", &feed, &list, 0);
+}
+
+// Refused before the run: nothing is written.
+fn refused() {
+    let feed = [1u32, 0, 2, 5, 5, 9, 9];
+    let double = [1u32, 0, 2, 5, 5, 5, 5];
+    let partial = [0u32, 0, 0, 2, 0];
+    let later = [0u32, 0, 0, 2, 1, 0];
+    let mut work = [7u32; 4];
+    show(&mut work, b"a pair twice in the feed", &double, &partial, 0);
+    show(&mut work, b"a part of an instruction", &feed, &partial, 0);
+    show(&mut work, b"an operand not earlier", &feed, &later, 0);
+}
+
+fn main() {
+    tags();
+    composed();
+    one_table();
+    two_tables();
+    crossed();
+    sheet();
+    refused();
+}
