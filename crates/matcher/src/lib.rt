@@ -15,6 +15,8 @@ ghost use Rattle.translate.specs.Answers.{instructionsIn};
 ghost use Rattle.query.specs.Query.{query};
 ghost use Rattle.query.specs.Answers.{slices};
 ghost use Rattle.answers.specs.Says.{Says};
+ghost use Rattle.listing.specs.Written.{listed};
+ghost use Rattle.sheet.specs.SheetQuery.{sheetQuery};
 ghost use Rattle.matcher.specs.Calls.{Translates, Answers};
 
 // Checks a feed: 1 to 4.
@@ -85,4 +87,12 @@ pub extern "C" fn matcher_query(
     let answer = query::query_into(feed, drawing, list, work, rows);
     *extent = query::extent(answer);
     say_query(answer, place)
+}
+
+// The listing of a sheet: its length, 0 where it does not fit.
+#[no_mangle]
+pub extern "C" fn matcher_sheet_query(sheet: &[u8], listing: &mut [u8]) -> usize
+    ensures { λ r. ⌜ listed r (now (listing .exit)) ≡ sheetQuery (now (sheet .entry)) (now (listing .entry)) ⌝ }
+{
+    sheet::sheet_query(sheet, listing)
 }

@@ -1,1 +1,3 @@
+pub mod Picks
+pub mod Printing
 pub mod Sheets

@@ -18,9 +18,11 @@ use Rattle.translator.specs.Reduction.{turned, carriedArc, moveArc, carriedPath
 use Rattle.translator.specs.Translation.{loadVertex, loadArc, picksFrom, load, translation, image, follow, lastRegister, rowsThrough, checkList}
 use Rattle.rows.specs.Rows.{rowWords, checkRows}
 use Rattle.query.specs.Query.{pickCount, answer, query}
-use Rattle.sheet.specs.Text.{bytes, addByte, split, fields, within, isName, noLeadingZero, isNumber, valueFrom, valueOf, digitsBefore, digits, same, find, known}
-use Rattle.sheet.specs.Sheet.{nothing, turnTo, withClasses, withLabels, withNode, withEdge, allow, numbered, withLine, fitsTable, readClass, readLabel, readNode, readEdge, readValues, endSection, readOpened, headers, readHeader, byStage, readLine, finish, continue, endsAt, readLines, readSheet, linesOf, tablesOf, feedWords, drawingWords}
-use Rattle.sheet.specs.Listing.{line, pickedNames, listing, refusal, ownSlices, answerText, outcomeText, sheetListing}
+use Rattle.text.specs.Text.{bytes, addByte, split, fields, within, isName, noLeadingZero, isNumber, valueFrom, valueOf, digitsBefore, digits, same, find, known}
+use Rattle.lines.specs.Reading.{nothing, turnTo, withClasses, withLabels, withNode, withEdge, allow, numbered, withLine, fitsTable, readClass, readLabel, readNode, readEdge, readValues, endSection, readOpened, headers, readHeader, byStage, readLine}
+use Rattle.reader.specs.Sheet.{finish, continue, endsAt, readLines, readSheet, linesOf, tablesOf, feedWords, drawingWords}
+use Rattle.listing.specs.Listing.{line, pickedNames, listing, refusal}
+use Rattle.sheet.specs.SheetQuery.{ownSlices, answerText, outcomeText, sheetListing}
 use Rattle.sheet.specs.Cases.{case, sheets}
 
 pub as-stated : map (λ c. sheetListing (bytes (c .sheet))) sheets ≡ map (λ c. bytes (c .listing)) sheets

@@ -1,4 +1,3 @@
 pub mod Cases
-pub mod Listing
-pub mod Sheet
-pub mod Text
+pub mod Printing
+pub mod SheetQuery

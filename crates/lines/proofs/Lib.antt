@@ -1,0 +1,4 @@
+mod Naming
+mod Entries
+mod Tests
+pub mod Steps

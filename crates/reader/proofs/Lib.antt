@@ -1,0 +1,5 @@
+mod Lines
+mod Writing
+mod Grouping
+mod Sizes
+pub mod Words

@@ -1,0 +1,24 @@
+-- `reader::put_three` meets its contract. Assumes nothing.
+use Rattle.reader.proofs.Writing.{wrote-then}
+use borrow.Author.Needs.{needs}
+use native.Mathlib.Omega.{arith}
+use Rattle.reader.proofs.put_three.Statement.{statement}
+use Rattle.reader.proofs.put_three.Tie as tie
+
+put-requires : tie.Need-put-requires
+put-requires c κs = search needs
+
+put-two-requires : tie.Need-put-two-requires
+put-two-requires c κs = omega (arith, c .before .before .before .put .ensures .ends, c .before .before .before .put .ensures .size)
+
+same-length : tie.Need-same-length
+same-length c = search needs
+
+returns : tie.Need-returns
+returns c =
+    let at-put-two = c .before .before in
+    let at-put = at-put-two .before .before .before .before in
+    wrote-then (at-put .put .ensures) (at-put-two .put-two .ensures)
+
+pub put-three-spec : {M : Type 1} → statement M
+put-three-spec = tie.close (tie.spec put-requires put-two-requires same-length returns)

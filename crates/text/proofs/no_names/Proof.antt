@@ -1,0 +1,12 @@
+-- `text::no_names` meets its contract. Assumes nothing.
+use mathlib.Core.Path.{refl}
+use Rattle.text.specs.Parts.{noNames}
+use Rattle.text.proofs.no_names.Statement.{statement}
+use Rattle.text.proofs.no_names.Tie as tie
+
+returns : tie.Need-returns
+unfolding noNames
+returns c = refl
+
+pub no-names-spec : {M : Type 1} → statement M
+no-names-spec = tie.close (tie.spec returns)
