@@ -63,6 +63,27 @@ pub fn drawing(r: &mut Random, feed: &[u32], most_nodes: usize, most_edges: usiz
     words
 }
 
+/// A feed and a drawing that is found in it: each node has its object first, and the tables hold what these need, and some pairs more.
+pub fn found(r: &mut Random, most_nodes: usize, most_edges: usize) -> (Vec<u32>, Vec<u32>) {
+    let (c, l, objects) = (1 + r.below(4), 1 + r.below(4), 1 + r.below(6));
+    let words = drawing(r, &[c as u32, l as u32], most_nodes, most_edges);
+    let n = words[0] as usize;
+    let at: Vec<u32> = (0..n).map(|_| r.below(objects) as u32).collect();
+    let (mut classes, mut labels) = (vec![BTreeSet::new(); c], vec![BTreeSet::new(); l]);
+    for (i, node) in words[2..2 + 2 * n].chunks(2).enumerate() {
+        classes[node[0] as usize].insert((at[i], at[i]));
+    }
+    for edge in words[2 + 2 * n..].chunks(3) {
+        labels[edge[0] as usize].insert((at[edge[1] as usize], at[edge[2] as usize]));
+    }
+    for _ in 0..r.below(6) {
+        let (u, v) = (r.below(objects) as u32, r.below(objects) as u32);
+        classes[r.below(c)].insert((u, u));
+        labels[r.below(l)].insert((u, v));
+    }
+    (feed_of(&classes, &labels), words)
+}
+
 /// One word changed, or a word more or less.
 pub fn damage(r: &mut Random, words: &mut Vec<u32>) {
     match r.below(8) {

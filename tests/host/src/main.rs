@@ -4,11 +4,14 @@
 #[allow(dead_code)]
 mod cases;
 mod checks;
+mod examples;
 mod matcher;
 #[allow(dead_code)]
 mod model;
+mod queries;
 mod random;
 mod runs;
+mod search;
 
 use std::fmt::Debug;
 
@@ -20,7 +23,7 @@ pub struct Tally {
 
 impl Tally {
     /// One comparison; the first few that fail are shown with their input.
-    pub fn same<T: PartialEq + Debug>(&mut self, what: &str, found: &T, expected: &T, input: &[u32]) {
+    pub fn same<T: PartialEq + Debug + ?Sized>(&mut self, what: &str, found: &T, expected: &T, input: &[u32]) {
         if found == expected {
             self.passed += 1;
             return;
@@ -55,6 +58,9 @@ fn main() {
     runs::random(&mut tally, 300_000);
     runs::long(&mut tally, 1_000);
     runs::large(&mut tally, 800);
+    examples::belt(&mut tally);
+    examples::sources(&mut tally);
+    queries::all(&mut tally, 66_000);
     println!("{} passed, {} failed", tally.passed, tally.failed);
     std::process::exit((tally.failed > 0) as i32);
 }

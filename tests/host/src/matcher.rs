@@ -12,6 +12,30 @@ extern "C" {
         work_len: usize,
         place: *mut u32,
     ) -> u32;
+    fn matcher_translate(
+        feed: *const u32,
+        feed_len: usize,
+        drawing: *const u32,
+        drawing_len: usize,
+        list: *mut u32,
+        list_len: usize,
+        place: *mut u32,
+        instructions: *mut usize,
+    ) -> u32;
+    fn matcher_query(
+        feed: *const u32,
+        feed_len: usize,
+        drawing: *const u32,
+        drawing_len: usize,
+        list: *mut u32,
+        list_len: usize,
+        work: *mut u32,
+        work_len: usize,
+        rows: *mut u32,
+        rows_len: usize,
+        place: *mut u32,
+        row_words: *mut usize,
+    ) -> u32;
 }
 
 pub fn check_feed(feed: &[u32]) -> (u32, u32) {
@@ -31,4 +55,44 @@ pub fn run(feed: &[u32], list: &[u32], work: &mut [u32]) -> (u32, u32) {
     let number =
         unsafe { matcher_run(feed.as_ptr(), feed.len(), list.as_ptr(), list.len(), work.as_mut_ptr(), work.len(), &mut place) };
     (number, place)
+}
+
+/// Number and place, and how many instructions were written.
+pub fn translate(feed: &[u32], drawing: &[u32], list: &mut [u32]) -> ((u32, u32), usize) {
+    let (mut place, mut instructions) = (u32::MAX, usize::MAX);
+    let number = unsafe {
+        matcher_translate(
+            feed.as_ptr(),
+            feed.len(),
+            drawing.as_ptr(),
+            drawing.len(),
+            list.as_mut_ptr(),
+            list.len(),
+            &mut place,
+            &mut instructions,
+        )
+    };
+    ((number, place), instructions)
+}
+
+/// Number and place, and how many words of the row slice are the answer.
+pub fn query(feed: &[u32], drawing: &[u32], list: &mut [u32], work: &mut [u32], rows: &mut [u32]) -> ((u32, u32), usize) {
+    let (mut place, mut row_words) = (u32::MAX, usize::MAX);
+    let number = unsafe {
+        matcher_query(
+            feed.as_ptr(),
+            feed.len(),
+            drawing.as_ptr(),
+            drawing.len(),
+            list.as_mut_ptr(),
+            list.len(),
+            work.as_mut_ptr(),
+            work.len(),
+            rows.as_mut_ptr(),
+            rows.len(),
+            &mut place,
+            &mut row_words,
+        )
+    };
+    ((number, place), row_words)
 }
