@@ -28,11 +28,10 @@ pub const NAMES: [&str; 16] = [
 // Why an operator is slower than its peer, where it is.
 const LOAD: &str = "the room is tested at each pair; the peer tests it once and copies the table as a whole";
 const ROOM: &str = "the room is tested at each pair; the peer tests it once, so that its loop takes several pairs at a time";
-const GATHERED: &str = "each left value of the second table is looked at twice when they are gathered, and the room is tested at each pair";
+const GROUPS: &str = "each left value of the first table is a call of its own, which tests the room and then writes its pairs";
 const PAIRS: &str = "two pairs are compared by left and then by right; the peer compares them as one number each";
 const CALLS: &str = "nothing is moved, so what counts is the calls, down to halves of one pair, and one comparison at each";
-const ALONE: &str = "most groups have one pair, and each goes through the recursive function that larger groups need; that call reads slices \
-    which its caller has just written to the stack";
+const ALONE: &str = "each group of the first table is a call of its own, with its own search in the second";
 pub const JOINED: &str = "the union of two runs is made in the other slice and copied back; the peer copies one run out and merges back";
 const FORETOLD: &str = "the merge picks and does not branch, so each step waits for the one before; the peer branches, which is faster where \
     the branch is foretold and slower where it is not, and copies the rest of a table as a whole";
@@ -152,12 +151,12 @@ fn cases() -> Vec<Case> {
         case(7, "any", ROOM, |p, r, n| one(p, &ordinary(r, n))),
         case(8, "any", ROOM, |p, r, n| one(p, &ordinary(r, n))),
         case(9, "any", ROOM, |p, r, n| one(p, &ordinary(r, n))),
-        case(10, "about as many lefts in both", ROOM, |p, _, n| {
+        case(10, "about as many lefts in both", GROUPS, |p, _, n| {
             let (x, y) = sides(n);
             two(p, &graph(x as usize, |i| i), &graph(y as usize, |i| i))
         }),
-        case(10, "one left in the first", GATHERED, |p, _, n| two(p, &[(7, 7)], &graph(n, |i| i))),
-        case(10, "one left in the second", ROOM, |p, _, n| two(p, &graph(n, |i| i), &[(7, 7)])),
+        case(10, "one left in the first", GROUPS, |p, _, n| two(p, &[(7, 7)], &graph(n, |i| i))),
+        case(10, "one left in the second", GROUPS, |p, _, n| two(p, &graph(n, |i| i), &[(7, 7)])),
         case(11, "half of the pairs, at random", SHORT, |p, r, n| one(p, &graph(n, |i| i ^ r.below(2) as u32))),
         case(11, "none of the pairs", SHORT, |p, _, n| one(p, &graph(n, |i| i ^ 1))),
         case(12, "four rights a left, at random", LAST, |p, r, n| one(p, &ordinary(r, n))),
