@@ -1,6 +1,8 @@
 //! Each operator of the proved run beside an unproved one of the same algorithms, in one process. Writes a page of figures to the file that its
 //! first argument names; the second, if there is one, is the number of seconds for each figure. `bench/run` builds and runs it.
 
+mod clock;
+mod figures;
 mod measure;
 mod operands;
 mod operators;

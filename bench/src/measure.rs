@@ -3,25 +3,10 @@
 //! several passes, so that a busy minute of the machine does not decide a figure.
 
 use crate::cases;
+use crate::clock::{median, now};
 use crate::matcher;
 use crate::peer;
 use crate::random::Random;
-
-/// Processor time of this thread, in seconds.
-fn now() -> f64 {
-    #[repr(C)]
-    struct Timespec {
-        seconds: i64,
-        nanoseconds: i64,
-    }
-    extern "C" {
-        fn clock_gettime(clock: i32, time: *mut Timespec) -> i32;
-    }
-    const THREAD_CPUTIME: i32 = 3;
-    let mut time = Timespec { seconds: 0, nanoseconds: 0 };
-    unsafe { clock_gettime(THREAD_CPUTIME, &mut time) };
-    time.seconds as f64 + time.nanoseconds as f64 * 1e-9
-}
 
 fn timed(f: impl FnOnce() -> (u32, u32)) -> f64 {
     let start = now();
@@ -29,11 +14,6 @@ fn timed(f: impl FnOnce() -> (u32, u32)) -> f64 {
     let time = now() - start;
     assert_eq!(verdict, (0, 0), "a list of the bench is refused");
     time
-}
-
-pub fn median(mut times: Vec<f64>) -> f64 {
-    times.sort_by(f64::total_cmp);
-    times[times.len() / 2]
 }
 
 /// Seconds of one operation, of the matcher and of its peer, turn by turn.

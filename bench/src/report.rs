@@ -1,6 +1,7 @@
 //! The page of figures.
 
-use crate::measure::median;
+use crate::clock::median;
+use crate::figures::{count, figure};
 use crate::operators::{Row, Worst, JOINED, NAMES};
 
 /// More than this, and the page says why.
@@ -18,20 +19,6 @@ A size is that of the operand, or of the result where that is larger; of interse
 the 4,096 pairs of a table in a feed are made by unions; loads are timed at 1,000 and 4,096. Up to sixteen operands are used in turn, so that no branch is learned by
 heart. Loops of one or two cycles a pair vary by a factor of two with the place that the linker gives them.
 ";
-
-fn count(n: usize) -> String {
-    if n < 1000 { n.to_string() } else { format!("{},{:03}", count(n / 1000), n % 1000) }
-}
-
-fn figure(x: f64) -> String {
-    if x < 10.0 {
-        format!("{x:.2}")
-    } else if x < 100.0 {
-        format!("{x:.1}")
-    } else {
-        count(x.round() as usize)
-    }
-}
 
 fn each<'r>(row: &'r Row, f: impl Fn(usize, f64, f64) -> String + 'r) -> Vec<String> {
     row.times.iter().map(move |(size, t)| f(*size, t.proved(), t.ratio())).collect()

@@ -1,0 +1,77 @@
+//! The whole query on frames of several sizes, beside SQLite, a backtracking matcher and the unproved algebra, in one process. Writes a page of
+//! figures and a plot to the two files that its arguments name; a third argument is the number of seconds for each figure. `bench/query` builds
+//! and runs it.
+
+mod algebra;
+mod backtracking;
+mod contest;
+mod drawings;
+mod frame;
+mod page;
+mod plot;
+mod proved;
+mod reduction;
+mod sqlite;
+
+// shared with the operators' bench and the tests
+#[path = "../clock.rs"]
+mod clock;
+#[path = "../figures.rs"]
+mod figures;
+#[allow(dead_code)]
+#[path = "../../../tests/host/src/matcher.rs"]
+mod matcher;
+#[path = "../peer.rs"]
+mod peer;
+#[allow(dead_code)]
+#[path = "../../../tests/host/src/random.rs"]
+mod random;
+
+use contest::{Cell, Ready, PASSES};
+use drawings::Drawing;
+use frame::Frame;
+
+const SIZES: [usize; 4] = [50, 500, 1_300, 4_000];
+
+/// All that the page and the plot tell.
+pub struct Results {
+    frames: Vec<Frame>,
+    drawings: Vec<Drawing>,
+    /// for each drawing, a cell for each frame
+    cells: Vec<Vec<Cell>>,
+    /// each drawing where every table is empty
+    bare: Vec<Cell>,
+    /// for each frame: the feed's check, SQLite's load, the index
+    preparation: Vec<[f64; 3]>,
+}
+
+fn measured(seconds: f64) -> Results {
+    let (frames, drawings) = (SIZES.map(Frame::new), drawings::drawings());
+    let mut cells: Vec<Vec<Cell>> = drawings.iter().map(|_| SIZES.map(|_| Cell::default()).into()).collect();
+    let mut bare: Vec<Cell> = drawings.iter().map(|_| Cell::default()).collect();
+    let nothing = Frame::empty();
+    for pass in 1..=PASSES {
+        eprintln!("pass {pass} of {PASSES}");
+        for (j, frame) in frames.iter().enumerate() {
+            let ready = Ready::new(frame);
+            for (i, drawing) in drawings.iter().enumerate() {
+                cells[i][j].measure(&ready, drawing, seconds / PASSES as f64);
+            }
+        }
+        let ready = Ready::new(&nothing);
+        for (i, drawing) in drawings.iter().enumerate() {
+            bare[i].measure(&ready, drawing, seconds / PASSES as f64 / 10.0);
+        }
+    }
+    let preparation = frames.iter().map(contest::preparation).collect();
+    Results { frames: frames.into(), drawings, cells, bare, preparation }
+}
+
+fn main() {
+    let mut arguments = std::env::args().skip(1);
+    let (page, plot) = (arguments.next().expect("the page to write"), arguments.next().expect("the plot to write"));
+    let seconds = arguments.next().map_or(2.4, |s| s.parse().expect("a number of seconds"));
+    let results = measured(seconds);
+    std::fs::write(&page, page::page(&results)).expect("the page can be written");
+    std::fs::write(&plot, plot::plot(&results)).expect("the plot can be written");
+}

@@ -1,0 +1,227 @@
+//! The page of figures.
+
+use crate::clock::median;
+use crate::contest::{Cell, BACKTRACKING, PROVED, SQLITE, UNPROVED};
+use crate::drawings::Drawing;
+use crate::figures::{count, figure};
+use crate::frame::{CLASSES, LABELS};
+use crate::{sqlite, Results};
+
+const MATCHERS: &str = "\
+- *proved query*: `matcher_query`. It checks the feed and the drawing, translates the drawing, runs the translation and reads the rows. Each slice is lent with just the words
+  that are needed.
+- *SQLite* VERSION in process and in memory: tables indexed both ways, one `SELECT DISTINCT … ORDER BY` for each drawing, prepared once. It is prepared in a database with
+  statistics (`ANALYZE`) and in one without; the quicker one counts.
+- *backtracking*: a search in Rust. Next is the node with most edges to those before it, of these the one of the smallest class. Candidates come from the shortest list of
+  neighbours, which are kept by label in both directions. Once all picked nodes have their objects, one way to go on is enough. The rows are sorted, and equal ones dropped.
+- *unproved algebra*: the same translation, run and rows by the same algorithms in plain Rust (`bench/src/query/algebra.rs` over `bench/src/peer.rs`).
+
+All four first gave the same rows, both algebras the same instructions and the same refusal; otherwise the bench fails. Then they take turns. A time is processor time, the median of the turns in three passes.
+**A ratio is the other's time to the proved query's, the median of the turns: above 1 the proved query is faster.** The tables and the statement of SQLite and the index and the order of nodes of
+the search are ready before the clock starts. The proved query starts from the words of feed and drawing each time. The last table tells what that spares the others.
+";
+
+const FRAMES: &str = "\
+Regions stand on a grid, and each touches about three others: beside it, over or under it, or diagonally. `touch` has each touching pair in both directions, as long as a table's
+4,096 pairs allow it. With 4,000 regions that would be 12,000 pairs, and 6,000 in one direction: so the largest frame has 4,096 touching pairs, each in one direction, from the lower
+number to the higher. Its regions touch only about two others, and most drawings find fewer rows on it than on the frame of 1,300. `above` has the touching pairs that stand one over the other,
+`covers` about one in eight touching pairs and those of bottles (a cap covers a neck over a body) and trays (three rims cover a floor), which are placed at random. Every region is in
+the class `region`, some are in others. The same frames come out of every run.
+";
+
+/// From this ratio on a query is called even.
+const EVEN: f64 = 0.9;
+
+fn row(cells: impl IntoIterator<Item = String>) -> String {
+    format!("| {} |\n", cells.into_iter().collect::<Vec<_>>().join(" | "))
+}
+
+/// Two digits or more.
+fn ratio(x: f64) -> String {
+    if x < 0.1 {
+        format!("{x:.3}")
+    } else {
+        figure(x)
+    }
+}
+
+fn micro(seconds: f64) -> String {
+    figure(seconds * 1e6)
+}
+
+fn frames(results: &Results) -> String {
+    let names = LABELS.iter().chain(&CLASSES[1..]).map(|name| name.to_string());
+    let mut text = row(["regions", "neighbours"].map(String::from).into_iter().chain(names).chain(["words of the feed".into()]));
+    text += &format!("|{}\n", "---:|".repeat(2 + LABELS.len() + CLASSES.len()));
+    for frame in &results.frames {
+        let sizes = frame.labels.iter().map(Vec::len).chain(frame.classes[1..].iter().map(Vec::len));
+        let neighbours = format!("{:.1}{}", frame.neighbours, if frame.both { "" } else { ", one direction" });
+        text += &row([count(frame.regions), neighbours].into_iter().chain(sizes.map(count)).chain([count(frame.feed.len())]));
+    }
+    text
+}
+
+fn drawings(results: &Results) -> String {
+    let mut text = String::from("| drawing | nodes, picked ones with a star | edges |\n|---|---|---|\n");
+    for drawing in &results.drawings {
+        let (nodes, edges) = drawing.text();
+        text += &row([drawing.name.into(), nodes, edges]);
+    }
+    text
+}
+
+/// The times and ratios of one query. Where it is refused the others have their times.
+fn figures(cell: &Cell) -> [String; 5] {
+    let other = |which| ratio(cell.ratio(which));
+    let time = |which| format!("({} µs)", micro(cell.time(which)));
+    match cell.refused {
+        None => [count(cell.pairs), micro(cell.time(PROVED)), other(SQLITE), other(BACKTRACKING), other(UNPROVED)],
+        Some((number, place)) => {
+            [String::new(), format!("refused: {number} at {place}"), time(SQLITE), time(BACKTRACKING), "refused".into()]
+        }
+    }
+}
+
+fn table(results: &Results) -> String {
+    let mut text = String::from(
+        "| drawing | regions | rows | pairs in registers | proved query, µs | SQLite / proved | backtracking / proved | unproved / proved |\n\
+        |---|---:|---:|---:|---:|---:|---:|---:|\n",
+    );
+    for (drawing, cells) in results.drawings.iter().zip(&results.cells) {
+        for (i, cell) in cells.iter().enumerate() {
+            let name = if i == 0 { drawing.name } else { "" };
+            text += &row([name.into(), count(cell.regions), count(cell.rows)].into_iter().chain(figures(cell)));
+        }
+    }
+    text
+}
+
+/// The queries that are not refused, with their drawings.
+fn accepted(results: &Results) -> Vec<(&Drawing, &Cell)> {
+    let all = results.drawings.iter().zip(&results.cells).flat_map(|(drawing, cells)| cells.iter().map(move |cell| (drawing, cell)));
+    all.filter(|(_, cell)| cell.refused.is_none()).collect()
+}
+
+/// These queries by drawing: the regions, and the ratio behind a colon.
+fn listed(queries: &[(&Drawing, &Cell)], which: usize) -> String {
+    let mut parts: Vec<(&str, Vec<String>)> = Vec::new();
+    for (drawing, cell) in queries {
+        let one = format!("{}: {}", count(cell.regions), ratio(cell.ratio(which)));
+        match parts.last_mut() {
+            Some(last) if last.0 == drawing.name => last.1.push(one),
+            _ => parts.push((drawing.name, vec![one])),
+        }
+    }
+    parts.iter().map(|(name, each)| format!("{name} ({})", each.join(", "))).collect::<Vec<_>>().join(", ")
+}
+
+/// In how many queries the proved one is faster, and the least, the median and the greatest ratio.
+fn outcome(results: &Results, which: usize) -> String {
+    let queries = accepted(results);
+    let mut ratios: Vec<f64> = queries.iter().map(|(_, cell)| cell.ratio(which)).collect();
+    ratios.sort_by(f64::total_cmp);
+    let faster = ratios.iter().filter(|&&x| x > 1.0).count();
+    format!(
+        "the proved query is faster in {faster} of {}; the ratio goes from {} to {}, the median is {}",
+        ratios.len(),
+        ratio(ratios[0]),
+        ratio(ratios[ratios.len() - 1]),
+        ratio(median(ratios.clone()))
+    )
+}
+
+fn beside_sqlite(results: &Results) -> String {
+    let slower: Vec<_> = accepted(results).into_iter().filter(|(_, cell)| cell.ratio(SQLITE) < 1.0).collect();
+    format!(
+        "**SQLite**: {}. It loses on {}. There SQLite goes from the few objects of a small class to their neighbours by its indexes, and is done after few look-ups. The program of \
+        document 01 copies every table that the drawing names before it looks at any, and the feed is checked in each query; on small frames it is the fixed cost of a query that counts (below). \
+        It gains most where a row has many embeddings, and where there are many rows.\n",
+        outcome(results, SQLITE),
+        listed(&slower, SQLITE)
+    )
+}
+
+fn beside_search(results: &Results) -> String {
+    let even: Vec<_> = accepted(results).into_iter().filter(|(_, cell)| cell.ratio(BACKTRACKING) >= EVEN).collect();
+    let even = if even.is_empty() { String::from("nothing") } else { listed(&even, BACKTRACKING) };
+    format!(
+        "**Backtracking**: {}. Even or better, {EVEN} and above, is {even}. Document 01 fixes the program and the registers: every table is loaded as a whole; every combination writes two tags and \
+        tau for each pair of its table, and anew the edges at both ends and the path of each picked node; all registers stay in the work slice, and their pairs, beside the rows, tell how much more \
+        is written. A search writes nothing but its rows, and begins where there is least to try. So selective drawings lose most: on the bottle, the tray and the tree it looks at a few regions \
+        around a small class, the program at every touching pair. The algebra gains where many embeddings share a row: it composes the unpicked middles of a chain away, where a search goes \
+        through each of them.\n",
+        outcome(results, BACKTRACKING)
+    )
+}
+
+fn beside_unproved(results: &Results) -> String {
+    let at = |i: usize| {
+        let cells = results.cells.iter().map(|cells| &cells[i]).filter(|cell| cell.refused.is_none());
+        format!("{} at {}", ratio(median(cells.map(|cell| cell.ratio(UNPROVED)).collect())), count(results.frames[i].regions))
+    };
+    let medians: Vec<String> = (0..results.frames.len()).map(at).collect();
+    format!(
+        "**Unproved algebra**: the median ratio by regions is {}. What differs most is paid in each query and does not grow (the next table): the proved query zeroes its scratch, two slices of \
+        65,536 words on the stack, where the unproved one keeps its own from query to query; and its translation hands the drawing on by value from step to step. Beyond that the operators differ \
+        as [bench-run.md](bench-run.md) has it: on large drawings nearly all time goes to compositions, most of them of a tag with an edge or a path; on the bottle and the tray it is the \
+        intersection of a large table with a small one.\n",
+        medians.join(", ")
+    )
+}
+
+fn refusals(results: &Results) -> String {
+    let mut text = String::new();
+    for (drawing, cells) in results.drawings.iter().zip(&results.cells) {
+        for (cell, (number, place)) in cells.iter().filter_map(|cell| Some((cell, cell.refused?))) {
+            text += &format!(
+                "\nThe {} on {} regions is refused with {number} at instruction {place}: that register would hold more than 65,536 pairs. The other two find {} rows.\n",
+                drawing.name,
+                count(cell.regions),
+                count(cell.rows)
+            );
+        }
+    }
+    text
+}
+
+fn fixed(results: &Results) -> String {
+    let mut text = String::from("| drawing | proved query, µs | unproved algebra, µs |\n|---|---:|---:|\n");
+    for (drawing, cell) in results.drawings.iter().zip(&results.bare) {
+        text += &row([drawing.name.into(), micro(cell.time(PROVED)), micro(cell.time(UNPROVED))]);
+    }
+    text
+}
+
+fn preparation(results: &Results) -> String {
+    let mut text = String::from(
+        "| regions | check of the feed, in each proved query, µs | SQLite: load, indexes, statistics, µs | backtracking: index, µs |\n|---:|---:|---:|---:|\n",
+    );
+    for (frame, times) in results.frames.iter().zip(&results.preparation) {
+        text += &row([count(frame.regions)].into_iter().chain(times.map(micro)));
+    }
+    text
+}
+
+pub fn page(results: &Results) -> String {
+    [
+        "# The query, beside SQLite, a search and an unproved algebra\n\nWritten by `bench/query`; x86-64, one core. \
+        Each whole query is timed beside three others, on the same frames and drawings, in one process.\n\n",
+        &MATCHERS.replace("VERSION", &sqlite::version()),
+        "\n![Time of each query against the regions of the frame](bench-query.svg)\n\n",
+        &table(results),
+        &refusals(results),
+        "\n## Where it gains and where it loses\n\n",
+        &[beside_sqlite(results), beside_search(results), beside_unproved(results)].join("\n"),
+        "\nThe fixed cost, as time of a query where all tables are empty:\n\n",
+        &fixed(results),
+        "\n## Frames\n\n",
+        FRAMES,
+        "\n",
+        &frames(results),
+        "\n## Drawings\n\n",
+        &drawings(results),
+        "\n## Before the first query\n\nWhat SQLite and the search do once for each frame, and the proved query each time:\n\n",
+        &preparation(results),
+    ]
+    .concat()
+}
