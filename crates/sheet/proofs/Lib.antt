@@ -1,3 +1,4 @@
+pub mod Longest
 pub mod Picks
 pub mod Printing
 pub mod Sheets

@@ -92,7 +92,7 @@ joined [] = refl
 joined (r ∷ rs) = ap (λ (ws : List ℕ). r ++ ws) (joined rs)
 
 module _ (feed : List ℕ) (p : Pattern) (sides : (k u v : ℕ) → pair u v ∈ classTable feed k → u ≡ v) where
-  row-length : (r : List ℕ) → r ∈ rows feed p → length r ≡ pickCount p
+  pub row-length : (r : List ℕ) → r ∈ rows feed p → length r ≡ pickCount p
   unfolding pickCount
   row-length r m =
       let t = in-rows feed p sides {r = r} .0 m in

@@ -3,7 +3,7 @@
 -- In order: the nodes of a drawing; a query that accepts; its drawing, and its rows as words; the listing of an answer, of a refusal; a sheet read to its end, a sheet
 -- with a breach.
 -- Assumes nothing.
-use Prim.Native.Nat.{ℕ, _-_, _≤_}
+use Prim.Native.Nat.{ℕ, _*_, _-_, _≤_}
 use native.Mathlib.Omega.{arith}
 use mathlib.Core.Bool.{true, false}
 use mathlib.Core.Path.{_≡_, refl, sym, ap, _∙_}
@@ -14,8 +14,8 @@ use Rattle.tables.specs.Lists.{_∈_, keep}
 use Rattle.tables.specs.Order.{Table, pair}
 use Rattle.tables.specs.Verdict.{Verdict, accepted, refused, number, location, _then_, isAccepted}
 use Rattle.tables.proofs.Members.{any-true, in-keep}
-use Rattle.tables.proofs.Tests.{true-not-false}
-use Rattle.tables.proofs.Verdict.{accepted-is, then-accepted}
+use Rattle.tables.proofs.Tests.{true-not-false, leb-is}
+use Rattle.tables.proofs.Verdict.{accepted-is, then-accepted, unless-accepted}
 use Rattle.feed.specs.Feed.{classTable}
 use Rattle.feed.proofs.Feed.{class-sides}
 use Rattle.drawing.specs.declared.Node.{Node}
@@ -25,7 +25,7 @@ use Rattle.drawing.proofs.Check.{drawing-feed, drawing-checked}
 use Rattle.drawing.proofs.Words.{lengths}
 use Rattle.algebra.specs.Instructions.{Instruction}
 use Rattle.translator.specs.Translation.{translation, checkList}
-use Rattle.rows.specs.Rows.{rowWords}
+use Rattle.rows.specs.Rows.{rowWords, checkRows}
 use Rattle.query.specs.Query.{Answer, Lent, pickCount, answer, query}
 use Rattle.query.specs.Answers.{queryVerdict, extentIn, slices, Answers}
 use Rattle.query.specs.declared.QueryCheck.{QueryCheck}
@@ -49,25 +49,31 @@ few-nodes drawing h = lengths drawing h .fewNodes
 
 -- ---- a query that accepts
 
-record Passed (u : Verdict) (a : Answer) (found : List (List ℕ)) : Type 0 where
+record Passed (u w : Verdict) (a : Answer) (found : List (List ℕ)) : Type 0 where
   before : u ≡ accepted
+  fit : w ≡ accepted
   words : take (a .extent) (a .out) ≡ rowWords found
 
 passed : (u v w : Verdict) (s : Lent) (code : List Instruction) (tables : List Table) (found : List (List ℕ))
-    → answer u v w s code tables found .verdict ≡ accepted → Passed u (answer u v w s code tables found) found
+    → answer u v w s code tables found .verdict ≡ accepted → Passed u w (answer u v w s code tables found) found
 unfolding answer isAccepted
 passed (refused n p) v w s code tables found e = absurd (true-not-false refl (sym (ap isAccepted e)))
 passed accepted (refused n p) w s code tables found e = absurd (true-not-false refl (sym (ap isAccepted e)))
 passed accepted accepted (refused n p) s code tables found e = absurd (true-not-false refl (sym (ap isAccepted e)))
-passed accepted accepted accepted s code tables found e = record { before = refl; words = take-append-seam (rowWords found) (drop (length (rowWords found)) (s .out)) }
+passed accepted accepted accepted s code tables found e = record { before = refl; fit = refl; words = take-append-seam (rowWords found) (drop (length (rowWords found)) (s .out)) }
 
 module _ (feed drawing : List ℕ) (s : Lent) (ok : query feed drawing s .verdict ≡ accepted) where
-  all-passed : Passed (checkDrawing feed drawing then checkList (s .list) (translation (patternOf drawing) .code)) (query feed drawing s) (rows feed (patternOf drawing))
+  all-passed : Passed (checkDrawing feed drawing then checkList (s .list) (translation (patternOf drawing) .code)) (checkRows (s .out) (pickCount (patternOf drawing)) (rows feed (patternOf drawing)))
+      (query feed drawing s) (rows feed (patternOf drawing))
   unfolding query
   all-passed = passed _ _ _ s _ _ _ ok
 
   pub drawing-accepted : checkDrawing feed drawing ≡ accepted
   drawing-accepted = then-accepted (checkDrawing feed drawing) _ .0 (all-passed .before) .0
+
+  pub rows-fit : length (rows feed (patternOf drawing)) * pickCount (patternOf drawing) ≤ length (s .out)
+  unfolding checkRows
+  rows-fit = simp (unless-accepted, leb-is) at (all-passed .fit)
 
   pub some-pick : 1 ≤ pickCount (patternOf drawing)
   unfolding pickCount

@@ -1,6 +1,6 @@
 -- SheetQuery: what the sheet query prints, and the call (document 01, 'The sheet').
 --
--- In order: the listing of a sheet; the call.
+-- In order: the listing of a sheet; the call; the bytes that matter.
 -- Assumes nothing.
 use Prim.Native.Nat.{ℕ, _*_}
 use mathlib.Core.List.{List}
@@ -32,3 +32,11 @@ sheetListing sheet = outcomeText (readSheet sheet)
 
 unfoldable pub sheetQuery : List ℕ → List ℕ → Listed
 sheetQuery sheet buffer = listedIn (sheetListing sheet) buffer
+
+-- No listing is longer: 12 names of 12 letters, 4,096 row words of 5 digits, and a space or a line feed behind each.
+abbrev pub longestListing : ℕ
+longestListing = 24732
+
+-- What stands behind the first byte too many changes nothing.
+abbrev pub decidingBytes : ℕ
+decidingBytes = 16385

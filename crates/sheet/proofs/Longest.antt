@@ -1,0 +1,387 @@
+-- Longest: how many bytes of a sheet decide its listing, and how long a listing can be.
+--
+-- In order: a sheet too long, cut; the digits of a number; a line; the picked names; the lines of rows; the objects of a row; the node names of
+-- a sheet; the listing of a sheet; the call, with a slice in which every listing fits.
+-- Assumes nothing.
+use Prim.Native.Nat.{ℕ, zero, suc, _+_, _*_, _/_, _%_, _^_, _<_, _≤_}
+use native.Mathlib.Omega.{arith}
+use native.Mathlib.Nat.{pow-suc, mul-suc, suc-mul}
+use native.Mathlib.Decide.{decLt}
+use mathlib.Core.Bool.{Bool, true, false, cond, not, _&&_}
+use mathlib.Core.Logic.{⊎-elim}
+use mathlib.Core.Path.{_≡_, refl, sym, ap, _∙_}
+use mathlib.Core.List.{List, [], _∷_, _++_, map, flatMap, List·Memᴰ·head as here, List·Memᴰ·tail as there, List·Memᴰ·not-nil, List·Memᴰ·eq-of-singleton}
+use mathlib.Core.Option.{Option, none, some}
+use lib.Dec.{eqb, leb, ltb}
+use lib.ListN.{length, getD, take, drop, length-append, length-map, length-take, length-replicate}
+use lib.Seq.{take-all, take-append-seam}
+use borrow.Author.Tests.{lt-ltb, le-ltb, le-leb}
+use Rattle.tables.specs.Lists.{_∈_}
+use Rattle.tables.specs.Order.{pair}
+use Rattle.tables.specs.Verdict.{Verdict, accepted, refused}
+use Rattle.tables.proofs.Members.{in-map, in-append, in-at, at-less, at-getD}
+use Rattle.tables.proofs.Tests.{both-true, leb-is, ltb-is}
+use Rattle.feed.specs.Feed.{classTable, checkFeed}
+use Rattle.feed.proofs.Feed.{class-sides, class-sound}
+use Rattle.drawing.specs.declared.Node.{Node}
+use Rattle.drawing.specs.Drawing.{Pattern, node, isPicked, patternOf}
+use Rattle.drawing.specs.Embeddings.{picked, rows}
+use Rattle.drawing.proofs.Check.{drawing-feed}
+use Rattle.drawing.proofs.Embeddings.{in-rows}
+use Rattle.query.specs.Query.{pickCount, query}
+use Rattle.text.specs.Text.{bytes, digits, digitsBefore, split, fields, isName, within}
+use Rattle.lines.specs.Reading.{Reading, nothing, allow, turnTo, withClasses, withLabels, withNode, withEdge, readClass, readLabel, readNode, readEdge, readValues, endSection, readOpened, readHeader, byStage, readLine}
+use Rattle.reader.specs.Sheet.{Outcome, read, breach, finish, continue, endsAt, readLines, readSheet, feedWords, drawingWords}
+use Rattle.reader.proofs.Words.{sheet-long}
+use Rattle.listing.specs.Listing.{line, pickedNames, listing, refusal, Listed, listedIn}
+use Rattle.listing.specs.Written.{rowLines, listed}
+use Rattle.sheet.specs.SheetQuery.{ownSlices, answerText, outcomeText, sheetListing, sheetQuery, longestListing, decidingBytes}
+use Rattle.sheet.proofs.Picks.{row-length}
+use Rattle.sheet.proofs.Printing.{drawing-accepted, rows-fit, some-pick}
+
+-- ---- a sheet too long, cut
+
+pub cut-same : (sheet : List ℕ) (n : ℕ) → decidingBytes ≤ n → sheetListing (take n sheet) ≡ sheetListing sheet
+unfolding sheetListing
+cut-same sheet n enough = by (decLt 16384 (length sheet))
+  where
+    by : Dec (16384 < length sheet) → outcomeText (readSheet (take n sheet)) ≡ outcomeText (readSheet sheet)
+    by (yes h) = let l = length-take n sheet in ap outcomeText (sheet-long (take n sheet) (omega arith) ∙ sym (sheet-long sheet h))
+    by (no h) = ap (λ (s : List ℕ). outcomeText (readSheet s)) (take-all n sheet (omega arith))
+
+-- ---- the digits of a number
+
+before-few : (most k n : ℕ) (after : List ℕ) → n < 10 ^ suc k → length (digitsBefore most n after) ≤ suc k + length after
+unfolding digitsBefore
+before-few zero k n after h = omega arith
+before-few (suc most) k n after h = by (decLt n 10) k h (λ k l. before-few most k (n / 10) ((48 + n % 10) ∷ after) l)
+  where
+    by : Dec (n < 10) → (k : ℕ) → n < 10 ^ suc k → ((k : ℕ) → n / 10 < 10 ^ suc k → length (digitsBefore most (n / 10) ((48 + n % 10) ∷ after)) ≤ suc k + length ((48 + n % 10) ∷ after))
+        → length (cond (ltb n 10) ((48 + n) ∷ after) (digitsBefore most (n / 10) ((48 + n % 10) ∷ after))) ≤ suc k + length after
+    by (yes l) k h rest = rw (lt-ltb n 10 l) (omega arith)
+    by (no l) zero h rest = absurd (omega arith)
+    by (no l) (suc k) h rest = let p = pow-suc 10 (suc k) in let r = rest k (omega arith) in rw (le-ltb n 10 (omega arith)) (omega arith)
+
+before-most : (most n : ℕ) (after : List ℕ) → length (digitsBefore most n after) ≤ most + length after
+unfolding digitsBefore
+before-most zero n after = omega arith
+before-most (suc most) n after = by (ltb n 10) (before-most most (n / 10) ((48 + n % 10) ∷ after))
+  where
+    by : (b : Bool) → length (digitsBefore most (n / 10) ((48 + n % 10) ∷ after)) ≤ most + length ((48 + n % 10) ∷ after)
+        → length (cond b ((48 + n) ∷ after) (digitsBefore most (n / 10) ((48 + n % 10) ∷ after))) ≤ suc most + length after
+    by true h = omega arith
+    by false h = omega arith
+
+object-digits : (n : ℕ) → n ≤ 65535 → length (digits n) ≤ 5
+unfolding digits
+object-digits n h = let d = before-few 10 4 n [] (omega arith) in omega arith
+
+word-digits : (n : ℕ) → length (digits n) ≤ 10
+unfolding digits
+word-digits n = let d = before-most 10 n [] in omega arith
+
+-- ---- a line
+
+-- every field is shorter than w
+Shorter : ℕ → List (List ℕ) → Type 0
+Shorter w fs = (f : List ℕ) → f ∈ fs → length f < w
+
+line-size : (w : ℕ) (f : List ℕ) (fs : List (List ℕ)) → Shorter w (f ∷ fs) → length (line (f ∷ fs)) ≤ w * length (f ∷ fs)
+unfolding line Shorter
+line-size w f [] h =
+    let a = length-append f (10 ∷ []) in
+    let s = h f (here refl) in
+    omega (arith, mul-suc w 0)
+line-size w f (g ∷ fs) h =
+    let a = length-append f (32 ∷ line (g ∷ fs)) in
+    let s = h f (here refl) in
+    let r = line-size w g fs (λ x m. h x (there m)) in
+    omega (arith, mul-suc w (length (g ∷ fs)))
+
+-- ---- the picked names
+
+picked-few : (ns : List (List ℕ)) (vs : List Node) → length (pickedNames ns vs) ≤ length ns
+unfolding pickedNames
+picked-few [] vs = omega arith
+picked-few (n ∷ ns) [] = omega arith
+picked-few (n ∷ ns) (v ∷ vs) = by (isPicked v) (picked-few ns vs)
+  where
+    by : (b : Bool) → length (pickedNames ns vs) ≤ length ns → length (cond b (n ∷ pickedNames ns vs) (pickedNames ns vs)) ≤ length (n ∷ ns)
+    by true h = omega arith
+    by false h = omega arith
+
+picked-shorter : (w : ℕ) (ns : List (List ℕ)) (vs : List Node) → Shorter w ns → Shorter w (pickedNames ns vs)
+unfolding pickedNames Shorter
+picked-shorter w [] vs h = h
+picked-shorter w (n ∷ ns) [] h = λ f m. absurd (List·Memᴰ·not-nil m)
+picked-shorter w (n ∷ ns) (v ∷ vs) h = by (isPicked v) (picked-shorter w ns vs (λ f m. h f (there m)))
+  where
+    by : (b : Bool) → Shorter w (pickedNames ns vs) → Shorter w (cond b (n ∷ pickedNames ns vs) (pickedNames ns vs))
+    by true rest = λ f m. one m
+      where
+        one : {f : List ℕ} → f ∈ (n ∷ pickedNames ns vs) → length f < w
+        one (here e) = h _ (here e)
+        one (there m) = rest _ m
+    by false rest = rest
+
+names-size : (ns : List (List ℕ)) (vs : List Node) → length ns ≤ 12 → Shorter 13 ns → length (line (pickedNames ns vs)) ≤ 156
+unfolding line
+names-size ns vs few short = by (pickedNames ns vs) (picked-few ns vs) (picked-shorter 13 ns vs short)
+  where
+    by : (fs : List (List ℕ)) → length fs ≤ length ns → Shorter 13 fs → length (line fs) ≤ 156
+    by [] l h = omega arith
+    by (f ∷ fs) l h = let s = line-size 13 f fs h in omega arith
+
+-- ---- the lines of rows
+
+-- a row of objects, one for each pick
+record Row (picks : ℕ) (r : List ℕ) : Type 0 where
+  size : length r ≡ picks
+  objects : (x : ℕ) → x ∈ r → x ≤ 65535
+
+digits-shorter : (r : List ℕ) → ((x : ℕ) → x ∈ r → x ≤ 65535) → Shorter 6 (map digits r)
+unfolding Shorter
+digits-shorter r h f m =
+    let x = in-map digits r .0 m in
+    let d = object-digits (x .0) (h (x .0) (x .1)) in
+    let e = ap length (x .2) in
+    omega arith
+
+row-size : (picks : ℕ) (r : List ℕ) → 1 ≤ picks → Row picks r → length (line (map digits r)) ≤ 6 * picks
+row-size picks [] p row = absurd (omega (arith, row .size))
+row-size picks (x ∷ xs) p row =
+    let s = line-size 6 (digits x) (map digits xs) (digits-shorter (x ∷ xs) (row .objects)) in
+    let l = length-map xs digits in
+    omega (arith, row .size)
+
+rows-size : (picks : ℕ) (found : List (List ℕ)) → 1 ≤ picks → ((r : List ℕ) → r ∈ found → Row picks r) → length (rowLines found) ≤ 6 * (length found * picks)
+unfolding flatMap
+rows-size picks [] p h = omega arith
+rows-size picks (r ∷ rs) p h =
+    let one = row-size picks r p (h r (here refl)) in
+    let rest = rows-size picks rs p (λ x m. h x (there m)) in
+    let a = length-append (line (map digits r)) (rowLines rs) in
+    omega (arith, suc-mul (length rs) picks)
+
+-- ---- the objects of a row
+
+picked-among : (vs : List Node) (at : List ℕ) {x : ℕ} → x ∈ picked vs at → x ∈ at
+unfolding picked
+picked-among [] at m = absurd (List·Memᴰ·not-nil m)
+picked-among (v ∷ vs) [] m = absurd (List·Memᴰ·not-nil m)
+picked-among (v ∷ vs) (y ∷ at) {x} m = by (isPicked v) (picked-among vs at) m
+  where
+    one : (x ∈ picked vs at → x ∈ at) → x ∈ (y ∷ picked vs at) → x ∈ (y ∷ at)
+    one rest (here e) = here e
+    one rest (there m) = there (rest m)
+
+    by : (b : Bool) → (x ∈ picked vs at → x ∈ at) → x ∈ cond b (y ∷ picked vs at) (picked vs at) → x ∈ (y ∷ at)
+    by true rest m = one rest m
+    by false rest m = there (rest m)
+
+module _ (feed : List ℕ) (p : Pattern) (ok : checkFeed feed ≡ accepted) where
+  rows-of-objects : (r : List ℕ) → r ∈ rows feed p → Row (pickCount p) r
+  rows-of-objects r m = record { size = row-length feed p (λ k u v n. class-sides feed ok k n) r m; objects = λ x n. small x n }
+    where
+      small : (x : ℕ) → x ∈ r → x ≤ 65535
+      small x n =
+          let t = in-rows feed p (λ k u v n. class-sides feed ok k n) {r = r} .0 m in
+          let i = in-at (picked-among (p .nodes) (t .0) (rw (t .2) at n)) in
+          let l : i .0 < length (p .nodes) = omega (arith, at-less (i .1), t .1 .size) in
+          let c = rw (at-getD (i .1) 0) at (t .1 .classes (i .0) l) in
+          class-sound feed ok (getD (p .nodes) (i .0) (node 0 0) .class) .small c .0
+
+-- ---- the node names of a sheet
+
+-- at most 12 names of at most 12 letters, one for each node
+record Few (r : Reading) : Type 0 where
+  each : length (r .names) ≡ length (r .nodes)
+  few : length (r .nodes) ≤ 12
+  short : Shorter 13 (r .names)
+
+data Line : Option Reading → Type 0 where
+  breaks : Line none
+  passes : {r : Reading} → Few r → Line (some r)
+
+allowed : (b : Bool) (r : Reading) → (b ≡ true → Few r) → Line (allow b r)
+unfolding allow
+allowed true r h = passes (h refl)
+allowed false r h = breaks
+
+few-nothing : Few nothing
+unfolding nothing Shorter
+few-nothing = record { each = refl; few = omega arith; short = λ f m. absurd (List·Memᴰ·not-nil m) }
+
+name-short : (n : List ℕ) → isName n ≡ true → length n < 13
+unfolding isName within
+name-short n t =
+    let w = both-true (leb 1 (length n) && leb (length n) 12) _ .0 t .0 in
+    let l = leb-is (length n) 12 .0 (both-true (leb 1 (length n)) (leb (length n) 12) .0 w .1) in
+    omega arith
+
+module _ {r : Reading} (g : Few r) where
+  few-node : (n : List ℕ) (v : Node) → isName n ≡ true → length (r .nodes) < 12 → Few (withNode n v r)
+  unfolding withNode Shorter
+  few-node n v name l =
+      let a = length-append (r .names) (n ∷ []) in
+      let b = length-append (r .nodes) (v ∷ []) in
+      record {
+        each = omega (arith, g .each);
+        few = omega arith;
+        short = λ f m. ⊎-elim (g .short f) (λ k. let e = ap length (List·Memᴰ·eq-of-singleton k) in let s = name-short n name in omega arith) (in-append (r .names) (n ∷ []) .0 m);
+      }
+
+  class-few : (fs : List (List ℕ)) → Line (readClass r fs)
+  unfolding readClass withClasses
+  class-few [] = breaks
+  class-few (c ∷ []) = breaks
+  class-few (c ∷ o ∷ []) = allowed _ _ (λ t. record { each = g .each; few = g .few; short = g .short })
+  class-few (c ∷ o ∷ x ∷ xs) = breaks
+
+  label-few : (fs : List (List ℕ)) → Line (readLabel r fs)
+  unfolding readLabel withLabels
+  label-few [] = breaks
+  label-few (l ∷ []) = breaks
+  label-few (l ∷ u ∷ []) = breaks
+  label-few (l ∷ u ∷ v ∷ []) = allowed _ _ (λ t. record { each = g .each; few = g .few; short = g .short })
+  label-few (l ∷ u ∷ v ∷ x ∷ xs) = breaks
+
+  node-few : (fs : List (List ℕ)) → Line (readNode r fs)
+  unfolding readNode
+  node-few [] = breaks
+  node-few (n ∷ []) = breaks
+  node-few (n ∷ c ∷ []) = breaks
+  node-few (n ∷ c ∷ k ∷ []) = allowed _ _ (λ t. let a = simp (both-true, ltb-is) at t in few-node n _ (a .0 .0 .0 .0) (a .1))
+  node-few (n ∷ c ∷ k ∷ x ∷ xs) = breaks
+
+  edge-few : (fs : List (List ℕ)) → Line (readEdge r fs)
+  unfolding readEdge withEdge
+  edge-few [] = breaks
+  edge-few (l ∷ []) = breaks
+  edge-few (l ∷ s ∷ []) = breaks
+  edge-few (l ∷ s ∷ t ∷ []) = allowed _ _ (λ t. record { each = g .each; few = g .few; short = g .short })
+  edge-few (l ∷ s ∷ t ∷ x ∷ xs) = breaks
+
+  turn-few : (s : ℕ) (o : Bool) → Few (turnTo s o r)
+  unfolding turnTo
+  turn-few s o = record { each = g .each; few = g .few; short = g .short }
+
+  values-few : (fs : List (List ℕ)) → Line (readValues r fs)
+  unfolding readValues
+  values-few fs = by (r .section)
+    where
+      by : (k : ℕ) → Line (getD (readClass ∷ readLabel ∷ readNode ∷ readEdge ∷ []) k (λ x y. none) r fs)
+      by zero = class-few fs
+      by (suc zero) = label-few fs
+      by (suc (suc zero)) = node-few fs
+      by (suc (suc (suc zero))) = edge-few fs
+      by (suc (suc (suc (suc k)))) = breaks
+
+  header-few : (s : List ℕ) → Line (readHeader r s)
+  unfolding readHeader
+  header-few s = allowed _ _ (λ t. turn-few _ _)
+
+  opened-few : (s : List ℕ) → Line (readOpened r s)
+  unfolding readOpened endSection
+  opened-few [] = allowed _ _ (λ t. turn-few _ _)
+  opened-few (b ∷ bs) = values-few (fields (b ∷ bs))
+
+  line-few : (s : List ℕ) → Line (readLine r s)
+  unfolding readLine byStage
+  line-few s = by (r .opened)
+    where
+      by : (b : Bool) → Line (byStage b r s)
+      by true = opened-few s
+      by false = header-few s
+
+data Sheet : Outcome → Type 0 where
+  broken : {at : ℕ} → Sheet (breach at)
+  whole : {r : Reading} → Few r → Sheet (read r)
+
+continued : {o : Option Reading} {rest : Reading → Outcome} (at : ℕ) → Line o → ((r : Reading) → Few r → Sheet (rest r)) → Sheet (continue at o rest)
+unfolding continue
+continued at breaks h = broken
+continued at (passes g) h = h _ g
+
+ends-few : (at : ℕ) {r : Reading} → Few r → (s : List ℕ) → Sheet (endsAt at r s)
+unfolding endsAt finish
+ends-few at {r} g [] = by (eqb (r .section) 3 && r .opened)
+  where
+    by : (b : Bool) → Sheet (cond b (read r) (breach at))
+    by true = whole g
+    by false = broken
+ends-few at g (b ∷ bs) = broken
+
+lines-few : (at : ℕ) {r : Reading} → Few r → (s : List ℕ) (ss : List (List ℕ)) → Sheet (readLines at r s ss)
+unfolding readLines
+lines-few at g s [] = ends-few at g s
+lines-few at g s (next ∷ ss) = continued at (line-few g s) (λ r h. lines-few (at + 1) h next ss)
+
+sheet-few : (s : List ℕ) → Sheet (readSheet s)
+unfolding readSheet
+sheet-few s = by (leb (length s) 16384)
+  where
+    by : (b : Bool) → Sheet (cond b (readLines 1 nothing (split 10 s .first) (split 10 s .rest)) (breach 0))
+    by true = lines-few 1 few-nothing (split 10 s .first) (split 10 s .rest)
+    by false = broken
+
+-- ---- the listing of a sheet
+
+refusal-size : (n p : ℕ) → length (refusal n p) ≤ longestListing
+unfolding refusal bytes Shorter
+refusal-size n p =
+    let s = line-size 11 (bytes "refused") (digits n ∷ digits p ∷ []) (λ f m. short m) in
+    omega arith
+  where
+    short : {f : List ℕ} → f ∈ (bytes "refused" ∷ digits n ∷ digits p ∷ []) → length f < 11
+    short (here e) = let l = ap length e in omega arith
+    short (there (here e)) = let l = ap length e in let d = word-digits n in omega arith
+    short (there (there (here e))) = let l = ap length e in let d = word-digits p in omega arith
+
+own-rows : length (ownSlices .out) ≡ 4096
+unfolding ownSlices
+own-rows = length-replicate {A = ℕ} 4096 0
+
+module _ {r : Reading} (g : Few r) where
+  text-size : query (feedWords r) (drawingWords r) ownSlices .verdict ≡ accepted
+      → length (listing (pickedNames (r .names) (r .nodes)) (rows (feedWords r) (patternOf (drawingWords r)))) ≤ longestListing
+  unfolding listing
+  text-size ok =
+      let feed = feedWords r in
+      let p = patternOf (drawingWords r) in
+      let names = names-size (r .names) (r .nodes) (omega (arith, g .each, g .few)) (g .short) in
+      let objects = rows-of-objects feed p (drawing-feed feed (drawingWords r) (drawing-accepted feed (drawingWords r) ownSlices ok)) in
+      let lines = rows-size (pickCount p) (rows feed p) (some-pick feed (drawingWords r) ownSlices ok) objects in
+      let fit = rows-fit feed (drawingWords r) ownSlices ok in
+      let a = length-append (line (pickedNames (r .names) (r .nodes))) (rowLines (rows feed p)) in
+      omega (arith, own-rows)
+
+  answer-size : (v : Verdict) → query (feedWords r) (drawingWords r) ownSlices .verdict ≡ v → length (answerText v r) ≤ longestListing
+  unfolding answerText
+  answer-size accepted e = text-size e
+  answer-size (refused n p) e = refusal-size n p
+
+pub listing-fits : (sheet : List ℕ) → length (sheetListing sheet) ≤ longestListing
+unfolding sheetListing outcomeText
+listing-fits sheet = by (sheet-few sheet)
+  where
+    by : {o : Outcome} → Sheet o → length (outcomeText o) ≤ longestListing
+    by (broken {at = at}) = refusal-size 14 at
+    by (whole g) = answer-size g _ refl
+
+-- ---- the call
+
+-- what the call leaves in a slice that is long enough
+pub record Listing (sheet after : List ℕ) (r : ℕ) : Type 0 where
+  pub size : r ≡ length (sheetListing sheet)
+  pub text : take r after ≡ sheetListing sheet
+
+pub listing-printed : (sheet before : List ℕ) {after : List ℕ} {r : ℕ} → longestListing ≤ length before → listed r after ≡ sheetQuery sheet before → Listing sheet after r
+unfolding sheetQuery listedIn
+listing-printed sheet before room e =
+    let fits = listing-fits sheet in
+    let f = rw (le-leb (length (sheetListing sheet)) (length before) (omega arith)) at e in
+    record {
+      size = ap (λ (l : Listed). l .length′) f;
+      text = ap (λ (l : Listed). take (l .length′) (l .buffer)) f ∙ take-append-seam (sheetListing sheet) (drop (length (sheetListing sheet)) before);
+    }
