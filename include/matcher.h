@@ -41,7 +41,8 @@ uint32_t matcher_query(const uint32_t *feed, size_t feed_len, const uint32_t *dr
                        size_t *row_words);
 
 /* The sheet query: the bytes of a sheet in, the bytes of its listing out; a refusal's line is a listing, too. Returns the listing's length.
- * One that does not fit gives 0 and a zeroed slice; otherwise the bytes after the listing are untouched. */
+ * One that does not fit gives 0 and a zeroed slice; otherwise the bytes after the listing are untouched. 24,732 bytes always suffice. Needs
+ * some 330 KiB of stack. */
 size_t matcher_sheet_query(const uint8_t *sheet, size_t sheet_len, uint8_t *listing, size_t listing_len);
 
 #ifdef __cplusplus

@@ -1,27 +1,24 @@
 -- Longest: how many bytes of a sheet decide its listing, and how long a listing can be.
 --
--- In order: a sheet too long, cut; the digits of a number; a line; the picked names; the lines of rows; the objects of a row; the node names of
--- a sheet; the listing of a sheet; the call, with a slice in which every listing fits.
+-- In order: a sheet too long, cut; the digits of a number; a line; the picked names; the lines of rows; the objects of a row; the listing of a
+-- sheet; the call, with any slice and with one in which every listing fits.
 -- Assumes nothing.
 use Prim.Native.Nat.{ℕ, zero, suc, _+_, _*_, _/_, _%_, _^_, _<_, _≤_}
 use native.Mathlib.Omega.{arith}
 use native.Mathlib.Nat.{pow-suc, mul-suc, suc-mul}
 use native.Mathlib.Decide.{decLt}
-use mathlib.Core.Bool.{Bool, true, false, cond, not, _&&_}
-use mathlib.Core.Logic.{⊎-elim}
+use mathlib.Core.Bool.{Bool, true, false, cond}
 use mathlib.Core.Path.{_≡_, refl, sym, ap, _∙_}
-use mathlib.Core.List.{List, [], _∷_, _++_, map, flatMap, List·Memᴰ·head as here, List·Memᴰ·tail as there, List·Memᴰ·not-nil, List·Memᴰ·eq-of-singleton}
-use mathlib.Core.Option.{Option, none, some}
-use lib.Dec.{eqb, leb, ltb}
+use mathlib.Core.List.{List, [], _∷_, map, flatMap, List·Memᴰ·head as here, List·Memᴰ·tail as there, List·Memᴰ·not-nil}
+use lib.Dec.{leb, ltb}
 use lib.ListN.{length, getD, take, drop, length-append, length-map, length-take, length-replicate}
 use lib.Seq.{take-all, take-append-seam}
 use borrow.Author.Tests.{lt-ltb, le-ltb, le-leb}
 use Rattle.tables.specs.Lists.{_∈_}
-use Rattle.tables.specs.Order.{pair}
 use Rattle.tables.specs.Verdict.{Verdict, accepted, refused}
-use Rattle.tables.proofs.Members.{in-map, in-append, in-at, at-less, at-getD}
-use Rattle.tables.proofs.Tests.{both-true, leb-is, ltb-is}
-use Rattle.feed.specs.Feed.{classTable, checkFeed}
+use Rattle.tables.proofs.Members.{in-map, in-at, at-less, at-getD}
+use Rattle.tables.proofs.Tests.{decide, leb-is}
+use Rattle.feed.specs.Feed.{checkFeed}
 use Rattle.feed.proofs.Feed.{class-sides, class-sound}
 use Rattle.drawing.specs.declared.Node.{Node}
 use Rattle.drawing.specs.Drawing.{Pattern, node, isPicked, patternOf}
@@ -29,13 +26,14 @@ use Rattle.drawing.specs.Embeddings.{picked, rows}
 use Rattle.drawing.proofs.Check.{drawing-feed}
 use Rattle.drawing.proofs.Embeddings.{in-rows}
 use Rattle.query.specs.Query.{pickCount, query}
-use Rattle.text.specs.Text.{bytes, digits, digitsBefore, split, fields, isName, within}
-use Rattle.lines.specs.Reading.{Reading, nothing, allow, turnTo, withClasses, withLabels, withNode, withEdge, readClass, readLabel, readNode, readEdge, readValues, endSection, readOpened, readHeader, byStage, readLine}
-use Rattle.reader.specs.Sheet.{Outcome, read, breach, finish, continue, endsAt, readLines, readSheet, feedWords, drawingWords}
+use Rattle.text.specs.Text.{bytes, digits, digitsBefore}
+use Rattle.lines.specs.Reading.{Reading}
+use Rattle.reader.specs.Sheet.{Outcome, readSheet, feedWords, drawingWords}
 use Rattle.reader.proofs.Words.{sheet-long}
 use Rattle.listing.specs.Listing.{line, pickedNames, listing, refusal, Listed, listedIn}
 use Rattle.listing.specs.Written.{rowLines, listed}
 use Rattle.sheet.specs.SheetQuery.{ownSlices, answerText, outcomeText, sheetListing, sheetQuery, longestListing, decidingBytes}
+use Rattle.sheet.proofs.NodeNames.{Shorter, Few, Sheet, broken, whole, sheet-few}
 use Rattle.sheet.proofs.Picks.{row-length}
 use Rattle.sheet.proofs.Printing.{drawing-accepted, rows-fit, some-pick}
 
@@ -81,10 +79,6 @@ unfolding digits
 word-digits n = let d = before-most 10 n [] in omega arith
 
 -- ---- a line
-
--- every field is shorter than w
-Shorter : ℕ → List (List ℕ) → Type 0
-Shorter w fs = (f : List ℕ) → f ∈ fs → length f < w
 
 line-size : (w : ℕ) (f : List ℕ) (fs : List (List ℕ)) → Shorter w (f ∷ fs) → length (line (f ∷ fs)) ≤ w * length (f ∷ fs)
 unfolding line Shorter
@@ -191,140 +185,6 @@ module _ (feed : List ℕ) (p : Pattern) (ok : checkFeed feed ≡ accepted) wher
           let c = rw (at-getD (i .1) 0) at (t .1 .classes (i .0) l) in
           class-sound feed ok (getD (p .nodes) (i .0) (node 0 0) .class) .small c .0
 
--- ---- the node names of a sheet
-
--- at most 12 names of at most 12 letters, one for each node
-record Few (r : Reading) : Type 0 where
-  each : length (r .names) ≡ length (r .nodes)
-  few : length (r .nodes) ≤ 12
-  short : Shorter 13 (r .names)
-
-data Line : Option Reading → Type 0 where
-  breaks : Line none
-  passes : {r : Reading} → Few r → Line (some r)
-
-allowed : (b : Bool) (r : Reading) → (b ≡ true → Few r) → Line (allow b r)
-unfolding allow
-allowed true r h = passes (h refl)
-allowed false r h = breaks
-
-few-nothing : Few nothing
-unfolding nothing Shorter
-few-nothing = record { each = refl; few = omega arith; short = λ f m. absurd (List·Memᴰ·not-nil m) }
-
-name-short : (n : List ℕ) → isName n ≡ true → length n < 13
-unfolding isName within
-name-short n t =
-    let w = both-true (leb 1 (length n) && leb (length n) 12) _ .0 t .0 in
-    let l = leb-is (length n) 12 .0 (both-true (leb 1 (length n)) (leb (length n) 12) .0 w .1) in
-    omega arith
-
-module _ {r : Reading} (g : Few r) where
-  few-node : (n : List ℕ) (v : Node) → isName n ≡ true → length (r .nodes) < 12 → Few (withNode n v r)
-  unfolding withNode Shorter
-  few-node n v name l =
-      let a = length-append (r .names) (n ∷ []) in
-      let b = length-append (r .nodes) (v ∷ []) in
-      record {
-        each = omega (arith, g .each);
-        few = omega arith;
-        short = λ f m. ⊎-elim (g .short f) (λ k. let e = ap length (List·Memᴰ·eq-of-singleton k) in let s = name-short n name in omega arith) (in-append (r .names) (n ∷ []) .0 m);
-      }
-
-  class-few : (fs : List (List ℕ)) → Line (readClass r fs)
-  unfolding readClass withClasses
-  class-few [] = breaks
-  class-few (c ∷ []) = breaks
-  class-few (c ∷ o ∷ []) = allowed _ _ (λ t. record { each = g .each; few = g .few; short = g .short })
-  class-few (c ∷ o ∷ x ∷ xs) = breaks
-
-  label-few : (fs : List (List ℕ)) → Line (readLabel r fs)
-  unfolding readLabel withLabels
-  label-few [] = breaks
-  label-few (l ∷ []) = breaks
-  label-few (l ∷ u ∷ []) = breaks
-  label-few (l ∷ u ∷ v ∷ []) = allowed _ _ (λ t. record { each = g .each; few = g .few; short = g .short })
-  label-few (l ∷ u ∷ v ∷ x ∷ xs) = breaks
-
-  node-few : (fs : List (List ℕ)) → Line (readNode r fs)
-  unfolding readNode
-  node-few [] = breaks
-  node-few (n ∷ []) = breaks
-  node-few (n ∷ c ∷ []) = breaks
-  node-few (n ∷ c ∷ k ∷ []) = allowed _ _ (λ t. let a = simp (both-true, ltb-is) at t in few-node n _ (a .0 .0 .0 .0) (a .1))
-  node-few (n ∷ c ∷ k ∷ x ∷ xs) = breaks
-
-  edge-few : (fs : List (List ℕ)) → Line (readEdge r fs)
-  unfolding readEdge withEdge
-  edge-few [] = breaks
-  edge-few (l ∷ []) = breaks
-  edge-few (l ∷ s ∷ []) = breaks
-  edge-few (l ∷ s ∷ t ∷ []) = allowed _ _ (λ t. record { each = g .each; few = g .few; short = g .short })
-  edge-few (l ∷ s ∷ t ∷ x ∷ xs) = breaks
-
-  turn-few : (s : ℕ) (o : Bool) → Few (turnTo s o r)
-  unfolding turnTo
-  turn-few s o = record { each = g .each; few = g .few; short = g .short }
-
-  values-few : (fs : List (List ℕ)) → Line (readValues r fs)
-  unfolding readValues
-  values-few fs = by (r .section)
-    where
-      by : (k : ℕ) → Line (getD (readClass ∷ readLabel ∷ readNode ∷ readEdge ∷ []) k (λ x y. none) r fs)
-      by zero = class-few fs
-      by (suc zero) = label-few fs
-      by (suc (suc zero)) = node-few fs
-      by (suc (suc (suc zero))) = edge-few fs
-      by (suc (suc (suc (suc k)))) = breaks
-
-  header-few : (s : List ℕ) → Line (readHeader r s)
-  unfolding readHeader
-  header-few s = allowed _ _ (λ t. turn-few _ _)
-
-  opened-few : (s : List ℕ) → Line (readOpened r s)
-  unfolding readOpened endSection
-  opened-few [] = allowed _ _ (λ t. turn-few _ _)
-  opened-few (b ∷ bs) = values-few (fields (b ∷ bs))
-
-  line-few : (s : List ℕ) → Line (readLine r s)
-  unfolding readLine byStage
-  line-few s = by (r .opened)
-    where
-      by : (b : Bool) → Line (byStage b r s)
-      by true = opened-few s
-      by false = header-few s
-
-data Sheet : Outcome → Type 0 where
-  broken : {at : ℕ} → Sheet (breach at)
-  whole : {r : Reading} → Few r → Sheet (read r)
-
-continued : {o : Option Reading} {rest : Reading → Outcome} (at : ℕ) → Line o → ((r : Reading) → Few r → Sheet (rest r)) → Sheet (continue at o rest)
-unfolding continue
-continued at breaks h = broken
-continued at (passes g) h = h _ g
-
-ends-few : (at : ℕ) {r : Reading} → Few r → (s : List ℕ) → Sheet (endsAt at r s)
-unfolding endsAt finish
-ends-few at {r} g [] = by (eqb (r .section) 3 && r .opened)
-  where
-    by : (b : Bool) → Sheet (cond b (read r) (breach at))
-    by true = whole g
-    by false = broken
-ends-few at g (b ∷ bs) = broken
-
-lines-few : (at : ℕ) {r : Reading} → Few r → (s : List ℕ) (ss : List (List ℕ)) → Sheet (readLines at r s ss)
-unfolding readLines
-lines-few at g s [] = ends-few at g s
-lines-few at g s (next ∷ ss) = continued at (line-few g s) (λ r h. lines-few (at + 1) h next ss)
-
-sheet-few : (s : List ℕ) → Sheet (readSheet s)
-unfolding readSheet
-sheet-few s = by (leb (length s) 16384)
-  where
-    by : (b : Bool) → Sheet (cond b (readLines 1 nothing (split 10 s .first) (split 10 s .rest)) (breach 0))
-    by true = lines-few 1 few-nothing (split 10 s .first) (split 10 s .rest)
-    by false = broken
-
 -- ---- the listing of a sheet
 
 refusal-size : (n p : ℕ) → length (refusal n p) ≤ longestListing
@@ -371,17 +231,15 @@ listing-fits sheet = by (sheet-few sheet)
 
 -- ---- the call
 
--- what the call leaves in a slice that is long enough
-pub record Listing (sheet after : List ℕ) (r : ℕ) : Type 0 where
-  pub size : r ≡ length (sheetListing sheet)
-  pub text : take r after ≡ sheetListing sheet
+pub listed-inside : (sheet before : List ℕ) {after : List ℕ} {r : ℕ} → listed r after ≡ sheetQuery sheet before → r ≤ length before
+unfolding sheetQuery listedIn
+listed-inside sheet before {r = r} e = decide (leb (length (sheetListing sheet)) (length before))
+    (λ t. let f : r ≡ length (sheetListing sheet) = ap (λ (l : Listed). l .length′) (rw t at e) in omega (arith, leb-is (length (sheetListing sheet)) (length before) .0 t))
+    (λ t. let f : r ≡ 0 = ap (λ (l : Listed). l .length′) (rw t at e) in omega arith)
 
-pub listing-printed : (sheet before : List ℕ) {after : List ℕ} {r : ℕ} → longestListing ≤ length before → listed r after ≡ sheetQuery sheet before → Listing sheet after r
+pub listing-printed : (sheet before : List ℕ) {after : List ℕ} {r : ℕ} → longestListing ≤ length before → listed r after ≡ sheetQuery sheet before → take r after ≡ sheetListing sheet
 unfolding sheetQuery listedIn
 listing-printed sheet before room e =
     let fits = listing-fits sheet in
     let f = rw (le-leb (length (sheetListing sheet)) (length before) (omega arith)) at e in
-    record {
-      size = ap (λ (l : Listed). l .length′) f;
-      text = ap (λ (l : Listed). take (l .length′) (l .buffer)) f ∙ take-append-seam (sheetListing sheet) (drop (length (sheetListing sheet)) before);
-    }
+    ap (λ (l : Listed). take (l .length′) (l .buffer)) f ∙ take-append-seam (sheetListing sheet) (drop (length (sheetListing sheet)) before)

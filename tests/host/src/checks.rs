@@ -44,7 +44,7 @@ impl Causes {
         let wanted = first.iter().flat_map(|&a| second.iter().map(move |&b| (a, b))).filter(|(a, b)| a != b);
         let (met, missed): (Vec<_>, Vec<_>) = wanted.partition(|pair| self.met.contains(pair));
         println!("{what}: {} of {} orders of two causes", met.len(), met.len() + missed.len());
-        tally.same(what, &missed, &Vec::new(), &[]);
+        tally.covers(&format!("{what}, without {missed:?}"), missed.is_empty());
     }
 }
 

@@ -36,6 +36,7 @@ extern "C" {
         place: *mut u32,
         row_words: *mut usize,
     ) -> u32;
+    fn matcher_sheet_query(sheet: *const u8, sheet_len: usize, listing: *mut u8, listing_len: usize) -> usize;
 }
 
 pub fn check_feed(feed: &[u32]) -> (u32, u32) {
@@ -95,4 +96,9 @@ pub fn query(feed: &[u32], drawing: &[u32], list: &mut [u32], work: &mut [u32], 
         )
     };
     ((number, place), row_words)
+}
+
+/// The listing's length, 0 where it does not fit.
+pub fn sheet_query(sheet: &[u8], listing: &mut [u8]) -> usize {
+    unsafe { matcher_sheet_query(sheet.as_ptr(), sheet.len(), listing.as_mut_ptr(), listing.len()) }
 }

@@ -102,9 +102,9 @@ impl Met {
         self.causes.show_pairs(tally, "run and rows", &[10], &[12]);
         let shown: Vec<String> = self.features.iter().map(|(name, n)| format!("{name} {n}")).collect();
         println!("drawings with: {}; longest translation {}", shown.join(", "), self.longest);
-        tally.same("drawings of every sort", &self.features.values().all(|&n| n > 0), &true, &[]);
+        tally.covers("drawings of every sort", self.features.values().all(|&n| n > 0));
         println!("rows by search: {} of {} drawings that are accepted; by every choice: {}", self.searched, self.accepted, self.tried);
-        tally.same("rows by search", &(self.searched >= 50_000), &true, &[]);
+        tally.covers("rows by search", self.searched >= 50_000);
     }
 }
 
@@ -204,6 +204,12 @@ fn compare(tally: &mut Tally, met: &mut Met, r: &mut Random, feed: &[u32], drawi
 }
 
 // ---- the cases
+
+pub fn few(tally: &mut Tally, cases: usize) {
+    let mut met = Met::default();
+    small(tally, &mut met, cases);
+    met.show(tally);
+}
 
 pub fn all(tally: &mut Tally, cases: usize) {
     let mut met = Met::default();

@@ -105,7 +105,7 @@ impl Met {
         tally.met(&format!("{what}: stopped by 10, by kind"), &self.full);
         tally.met_of(&format!("{what}: stopped by 11, by kind"), &self.large, large);
         println!("{what}: 11 without room {}, 10 before an 11 {}", self.large_and_full, self.full_then_large);
-        tally.same(what, &(self.large_and_full > 0 && self.full_then_large > 0), &true, &[]);
+        tally.covers(what, self.large_and_full > 0 && self.full_then_large > 0);
     }
 }
 

@@ -6,7 +6,7 @@ use mathlib.Core.Path.{_≡_, sym, ap, _∙_}
 use borrow.Author.Needs.{needs}
 use lib.ListN.{length, take}
 use Rattle.sheet.specs.SheetQuery.{sheetListing}
-use Rattle.sheet.proofs.Longest.{cut-same, listing-fits, listing-printed}
+use Rattle.sheet.proofs.Longest.{cut-same, listed-inside, listing-printed}
 use Rattle.match_sheet.proofs.list.Statement.{statement}
 use Rattle.match_sheet.proofs.list.Tie as tie
 
@@ -33,10 +33,11 @@ returns c =
     let bytes = a .input .now in
     let part = take (a .n - 0) bytes in
     let z : a .n - 0 ≡ a .n = omega arith in
-    let l = listing-printed part (a .listing .now) (h .fits) (q .ensures) in
     record {
-      inside = omega (arith, l .size, listing-fits part, h .fits, q .kept .1 .0);
-      listing = λ input e. l .text ∙ ap (λ (n : ℕ). sheetListing (take n bytes)) z ∙ ap sheetListing (sym e) ∙ cut-same input (length bytes) (h .decides);
+      inside = omega (arith, listed-inside part (a .listing .now) (q .ensures), q .kept .1 .0);
+      listing = λ input e.
+          listing-printed part (a .listing .now) (h .fits) (q .ensures)
+          ∙ ap (λ (n : ℕ). sheetListing (take n bytes)) z ∙ ap sheetListing (sym e) ∙ cut-same input (length bytes) (h .decides);
     }
 
 pub list-spec : {M : Type 1} → statement M

@@ -1,0 +1,134 @@
+//! How deep the calls go into the stack, measured on a thread whose stack is filled with a pattern first; and that they run on threads
+//! with small stacks.
+
+use crate::cases;
+use crate::matcher;
+use crate::model::Table;
+use crate::sheets;
+use crate::Tally;
+use std::alloc::{alloc, dealloc, Layout};
+use std::ffi::{c_int, c_void};
+
+const KIB: usize = 1024;
+
+// ---- measuring
+
+extern "C" {
+    fn pthread_attr_init(attributes: *mut Attributes) -> c_int;
+    fn pthread_attr_setstack(attributes: *mut Attributes, stack: *mut c_void, bytes: usize) -> c_int;
+    fn pthread_attr_destroy(attributes: *mut Attributes) -> c_int;
+    fn pthread_create(thread: *mut usize, attributes: *const Attributes, start: Start, with: *mut c_void) -> c_int;
+    fn pthread_join(thread: usize, result: *mut *mut c_void) -> c_int;
+}
+
+type Start = extern "C" fn(*mut c_void) -> *mut c_void;
+
+/// At least as large as the C library's type.
+#[repr(C, align(16))]
+struct Attributes([u64; 32]);
+
+/// A call, and where the stack stood before it.
+struct Job<'a> {
+    call: &'a mut dyn FnMut(),
+    top: usize,
+}
+
+extern "C" fn start(job: *mut c_void) -> *mut c_void {
+    let job = unsafe { &mut *(job as *mut Job) };
+    let here = 0u8;
+    job.top = &here as *const u8 as usize;
+    (job.call)();
+    std::ptr::null_mut()
+}
+
+/// How many bytes of the stack a call has touched.
+fn depth(call: &mut dyn FnMut()) -> usize {
+    const BYTES: usize = 4 * KIB * KIB;
+    const FILL: u8 = 0xa5;
+    let layout = Layout::from_size_align(BYTES, 64 * KIB).unwrap();
+    let mut job = Job { call, top: 0 };
+    unsafe {
+        let stack = alloc(layout);
+        assert!(!stack.is_null());
+        stack.write_bytes(FILL, BYTES);
+        let (mut attributes, mut thread) = (Attributes([0; 32]), 0);
+        let with = &mut job as *mut Job as *mut c_void;
+        assert_eq!(pthread_attr_init(&mut attributes), 0);
+        assert_eq!(pthread_attr_setstack(&mut attributes, stack as *mut c_void, BYTES), 0);
+        assert_eq!(pthread_create(&mut thread, &attributes, start, with), 0);
+        assert_eq!(pthread_join(thread, std::ptr::null_mut()), 0);
+        pthread_attr_destroy(&mut attributes);
+        let touched = (0..BYTES).find(|&i| *stack.add(i) != FILL).unwrap();
+        let deepest = stack as usize + touched;
+        dealloc(stack, layout);
+        job.top - deepest
+    }
+}
+
+// ---- the calls
+
+/// A feed, and a list or a drawing.
+type Words = (Vec<u32>, Vec<u32>);
+
+/// Registers of 65,536 pairs by composition and by cross; of these the inverse, the right values, another composition, tags.
+fn large_runs() -> Vec<Words> {
+    let hub: Table = (0..4_096).map(|i| (i, 7)).collect();
+    let spokes: Table = (0..16).map(|i| (7, i)).collect();
+    let feed = cases::feed_of(&[cases::class(0, 256)], &[hub, spokes]);
+    let then = [2, 2, 0, 13, 2, 0, 3, 2, 2, 7, 2, 0, 8, 2, 0, 9, 2, 0];
+    let lists = [[1, 0, 0, 1, 1, 0, 3, 0, 1], [0, 0, 0, 0, 0, 0, 10, 0, 1]].map(|first| [&first[..], &then].concat());
+    lists.map(|list| (feed.clone(), list)).into()
+}
+
+/// 65,536 rows by cross; the same by a chain whose ends come out in the other order, so that they must be sorted; 12 nodes with 24 edges.
+fn large_queries() -> Vec<Words> {
+    let spokes: Table = (0..256).map(|i| (7, i)).collect();
+    let all: Table = [(0, 0), (0, 1), (1, 0), (1, 1)].into();
+    let feed = cases::feed_of(&[cases::class(0, 256), cases::class(7, 1), cases::class(0, 2)], &[spokes, all]);
+    let mut crowded = vec![12, 24];
+    crowded.extend([2, 1].repeat(12));
+    crowded.extend((0..24).flat_map(|k| [1, k % 12, (5 * k + 1) % 12]));
+    let drawings = [vec![2, 0, 0, 1, 0, 1], vec![3, 2, 0, 1, 1, 0, 0, 1, 0, 1, 2, 0, 1, 0], crowded];
+    drawings.map(|drawing| (feed.clone(), drawing)).into()
+}
+
+/// The number of a run.
+fn run((feed, list): &Words) -> usize {
+    matcher::run(feed, list, &mut vec![0; 800_000]).0 as usize
+}
+
+/// The row words of a query.
+fn query((feed, drawing): &Words) -> usize {
+    let [mut list, mut work, mut rows] = [3_072, 1_600_000, 140_000].map(|words| vec![0; words]);
+    matcher::query(feed, drawing, &mut list, &mut work, &mut rows).1
+}
+
+/// The length of a listing.
+fn sheet_query(sheet: &Vec<u8>) -> usize {
+    matcher::sheet_query(sheet, &mut vec![0; 30_000])
+}
+
+/// All cases of a call, measured, and then on a thread with a stack of this size.
+fn check<T: Sync>(tally: &mut Tally, what: &str, cases: &[T], call: fn(&T) -> usize, bytes: usize) {
+    let mut answers = vec![0; cases.len()];
+    let depths = cases.iter().zip(&mut answers).map(|(case, answer)| depth(&mut || *answer = call(case)));
+    let deepest = depths.max().unwrap();
+    println!("stack of {what}: {deepest} bytes");
+    // a thread's own data stands on its stack, too
+    let fits = deepest + 16 * KIB <= bytes;
+    tally.same(&format!("{what} fits a stack of {bytes} bytes"), &fits, &true, &[deepest as u32]);
+    if fits {
+        let again: Vec<usize> = std::thread::scope(|scope| {
+            let thread = std::thread::Builder::new().stack_size(bytes);
+            thread.spawn_scoped(scope, || cases.iter().map(call).collect()).unwrap().join().unwrap()
+        });
+        tally.same(&format!("{what} on a stack of {bytes} bytes"), &again, &answers, &[]);
+    }
+}
+
+pub fn all(tally: &mut Tally) {
+    let sheets: Vec<Vec<u8>> = sheets::at_ceilings().into_iter().map(|case| case.sheet).collect();
+    check(tally, "the sheet query", &sheets, sheet_query, 512 * KIB);
+    check(tally, "the run", &large_runs(), run, 1_024 * KIB);
+    check(tally, "the query", &large_queries(), query, 1_024 * KIB);
+}
