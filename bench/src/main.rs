@@ -14,7 +14,7 @@ mod report;
 #[path = "../../tests/host/src/cases.rs"]
 mod cases;
 #[allow(dead_code)]
-#[path = "../../tests/host/src/matcher.rs"]
+#[path = "../../include/matcher.rs"]
 mod matcher;
 #[allow(dead_code)]
 #[path = "../../tests/host/src/model.rs"]

@@ -19,7 +19,7 @@ mod clock;
 #[path = "../figures.rs"]
 mod figures;
 #[allow(dead_code)]
-#[path = "../../../tests/host/src/matcher.rs"]
+#[path = "../../../include/matcher.rs"]
 mod matcher;
 #[path = "../peer.rs"]
 mod peer;

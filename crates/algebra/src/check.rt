@@ -8,7 +8,8 @@ ghost use mathlib.Core.Path.{_≡_};
 ghost use Prim.Native.Nat.{_+_, _*_, _≤_};
 ghost use lib.ListN.{length, getD, getElem?};
 ghost use Rattle.algebra.specs.Instructions.{instruction, instructionsOf, signatures, isValid, checkEach, instructionCeiling, checkInstructions};
-ghost use Rattle.algebra.specs.Answers.{instructionVerdict, checkInstructionList, instructionOf, operandsOf, areOperands};
+ghost use Rattle.algebra.specs.Answers.{instructionVerdict};
+ghost use Rattle.algebra.specs.inner.Parts.{checkInstructionList, instructionOf, operandsOf, areOperands};
 
 // The most instructions that a list may have.
 const CEILING: usize = 1024;

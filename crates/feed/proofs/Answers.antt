@@ -1,6 +1,6 @@
 -- Answers: what an answer of the code says, in the terms of the checks.
 --
--- In order: an answer and a check after it; the answer for the counts.
+-- In order: an answer and a check after it; an answer that refuses; the answer for the counts.
 -- Assumes nothing.
 use mathlib.Core.Path.{_≡_, refl}
 use mathlib.Core.Logic.{inl, inr}
@@ -11,9 +11,10 @@ use native.Mathlib.Omega.{arith}
 use lib.Dec.{leb}
 use types.Run.{OneOf}
 use denote.Enum.Declared.{tagOf}
-use Rattle.tables.specs.Verdict.{Verdict, accepted, refused, unless, _then_}
+use Rattle.tables.specs.Verdict.{Verdict, accepted, refused, unless, _then_, isAccepted}
 use Rattle.feed.specs.Feed.{checkCounts}
-use Rattle.feed.specs.Answers.{feedVerdict, countsFound}
+use Rattle.feed.specs.Answers.{feedVerdict}
+use Rattle.feed.specs.inner.Parts.{countsFound}
 use Rattle.feed.specs.declared.FeedCheck.{FeedCheck}
 use Rattle.feed.specs.declared.FeedCheck.the-variants.{Accepted, Length, Ceiling, Ascent, Sides}
 use Rattle.feed.specs.declared.Counts.the-variants.{Sum, Over}
@@ -34,6 +35,18 @@ refuses Length v o = refl
 refuses (Ceiling p) v o = refl
 refuses (Ascent p) v o = refl
 refuses (Sides p) v o = refl
+
+-- an answer that refuses
+pub feed-refused : (c : FeedCheck) → OneOf (1 ∷ 2 ∷ 3 ∷ 4 ∷ []) (tagOf the-type c) → false ≡ isAccepted (feedVerdict c)
+unfolding isAccepted feedVerdict
+feed-refused Accepted (inl e) = absurd (omega arith)
+feed-refused Accepted (inr (inl e)) = absurd (omega arith)
+feed-refused Accepted (inr (inr (inl e))) = absurd (omega arith)
+feed-refused Accepted (inr (inr (inr e))) = absurd (omega arith)
+feed-refused Length o = refl
+feed-refused (Ceiling p) o = refl
+feed-refused (Ascent p) o = refl
+feed-refused (Sides p) o = refl
 
 -- the answer for the counts, and their check
 pub counts-accepted : (v : Verdict) (t : ℕ) {s : ℕ} → Sum s ≡ countsFound v t → (v ≡ accepted) × (s ≡ t)

@@ -17,7 +17,7 @@ use Rattle.tables.specs.Lists.{total}
 use Rattle.tables.proofs.Tests.{leb-is}
 use Rattle.tables.proofs.Verdict.{then-accepted, unless-accepted}
 use Rattle.feed.specs.Feed.{classCount, labelCount, tableCount, counts, pairsOf, cut, tables, checkCounts, checkPairs, checkTables, checkFeed}
-use Rattle.feed.specs.Answers.{countsFound, Exact}
+use Rattle.feed.specs.inner.Parts.{countsFound, Exact}
 use Rattle.feed.specs.declared.Counts.{Counts}
 use Rattle.feed.specs.declared.Counts.the-variants.{Sum, Over}
 use Rattle.feed.proofs.Words.{length-table, length-counts, counts-next, tablesFrom, tables-from-start, tables-next, Ends, ends-inside}

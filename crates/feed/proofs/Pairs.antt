@@ -16,7 +16,7 @@ use Rattle.tables.specs.Order.{comparePair, isLess, next}
 use Rattle.tables.specs.Verdict.{Verdict, accepted, refused, unless, _then_}
 use Rattle.tables.proofs.Orders.{compare-lt, compare-eq, compare-gt}
 use Rattle.feed.specs.Feed.{pairsOf, above, checkPair, checkPairs}
-use Rattle.feed.specs.Answers.{pairFrom, before}
+use Rattle.feed.specs.inner.Parts.{pairFrom, before}
 use Rattle.feed.proofs.Words.{pairs-cons}
 
 -- the comparison of two pairs

@@ -14,7 +14,7 @@ use Rattle.tables.specs.Lists.{total}
 use Rattle.tables.specs.Order.{Table, pair}
 use Rattle.feed.specs.declared.Span.{Span}
 use Rattle.feed.specs.Feed.{classCount, tableCount, counts, body, pairsOf, cut, tables, classTable, labelTable}
-use Rattle.feed.specs.Answers.{pairFrom, SpanOf}
+use Rattle.feed.specs.inner.Parts.{pairFrom, SpanOf}
 
 -- the words two by two
 drop-two : (i : ℕ) (ws : List ℕ) → i + 1 < length ws → drop i ws ≡ getD ws i 0 ∷ getD ws (i + 1) 0 ∷ drop (i + 2) ws

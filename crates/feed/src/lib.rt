@@ -9,9 +9,9 @@ ghost use lib.ListN.{length, take, drop, getD};
 ghost use Rattle.tables.specs.Order.{comparePair, isLess};
 ghost use Rattle.tables.specs.Lists.{total};
 ghost use Rattle.tables.specs.Verdict.{accepted};
-ghost use Rattle.feed.specs.Feed.{classCount, labelCount, tableCount, counts, tables, classTable, labelTable, pairsOf};
-ghost use Rattle.feed.specs.Feed.{above, checkCounts, checkPair, checkPairs, checkTables, checkFeed};
-ghost use Rattle.feed.specs.Answers.{feedVerdict, pairFrom, before, countsFound, Exact, SpanOf};
+ghost use Rattle.feed.specs.Feed.{classCount, labelCount, tableCount, counts, tables, classTable, labelTable, pairsOf, above, checkCounts, checkPair, checkPairs, checkTables, checkFeed};
+ghost use Rattle.feed.specs.Answers.{feedVerdict};
+ghost use Rattle.feed.specs.inner.Parts.{pairFrom, before, countsFound, Exact, SpanOf};
 
 // What the check of a feed finds. Each refusal has its number in document 01 and, but for a wrong length, its place.
 pub enum FeedCheck {

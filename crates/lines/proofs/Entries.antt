@@ -11,10 +11,10 @@ use lib.Seq.{take-suc-set, length-take-le}
 use Rattle.tables.specs.Order.{pair}
 use Rattle.text.specs.declared.Names.{Names}
 use Rattle.text.specs.Text.{find}
-use Rattle.text.specs.Parts.{namesOf}
+use Rattle.text.specs.inner.Parts.{namesOf}
 use Rattle.lines.specs.declared.Tables.{Tables}
 use Rattle.lines.specs.Reading.{withLine}
-use Rattle.lines.specs.State.{entry, entriesOf, entries, putLine, tablesRead, Numbered, Lined}
+use Rattle.lines.specs.inner.State.{entry, entriesOf, entries, putLine, tablesRead, Numbered, Lined}
 
 entries-append : (n : ℕ) (xs ys : List ℕ) → length xs ≡ 3 * n → entriesOf (xs ++ ys) ≡ entriesOf xs ++ entriesOf ys
 unfolding entriesOf

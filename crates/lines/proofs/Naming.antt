@@ -13,10 +13,10 @@ use lib.ListN.{length, length-append}
 use Rattle.tables.proofs.Tests.{both-true}
 use Rattle.text.specs.declared.Names.{Names}
 use Rattle.text.specs.Text.{isName, same, find, known}
-use Rattle.text.specs.Parts.{part, Inside, span, nameAt, namesOf, withName, Spans}
+use Rattle.text.specs.inner.Parts.{part, Inside, span, nameAt, namesOf, withName, Spans}
 use Rattle.text.proofs.Spans.{length-names, names-longer, spans-longer}
 use Rattle.lines.specs.Reading.{numbered, fitsTable}
-use Rattle.lines.specs.State.{Numbered}
+use Rattle.lines.specs.inner.State.{Numbered}
 
 -- ---- whether a name is known
 

@@ -20,7 +20,7 @@ use Rattle.drawing.specs.Drawing.{node, edge}
 use Rattle.drawing.specs.Builder.{view, withNode, withEdge}
 use Rattle.drawing.proofs.Builder.{Roomy, moreNodes, moreEdges, node-full, node-added, node-roomy, view-node, edge-full, edge-added, edge-roomy, view-edge}
 use Rattle.text.specs.Text.{fields, isName, isNumber, valueOf, same, find, known}
-use Rattle.text.specs.Parts.{part, Inside, Two, Three, span, nameAt, namesOf, withName}
+use Rattle.text.specs.inner.Parts.{part, Inside, Two, Three, span, nameAt, namesOf, withName}
 use Rattle.text.proofs.Parts.{length-part}
 use Rattle.text.proofs.Words.{name-length, number}
 use Rattle.text.proofs.Spans.{names-longer, spans-longer}
@@ -28,7 +28,7 @@ use Rattle.lines.specs.declared.Tables.{Tables}
 use Rattle.lines.specs.declared.State.{State}
 use Rattle.lines.specs.declared.Step.{Step}
 use Rattle.lines.specs.Reading.{Reading, allow, turnTo, withClasses, withLabels, withNode as addNode, withEdge as addEdge, fitsTable, readClass, readLabel, readNode, readEdge, endSection, headers, readHeader}
-use Rattle.lines.specs.State.{tablesRead, viewOf, Fine, Ready, stepBy, withDrawing, nodeStep, edgeStep, turned, endStep, Lined, ClassRead, LabelRead, OtherRead, LineRead}
+use Rattle.lines.specs.inner.State.{tablesRead, viewOf, Fine, Ready, stepBy, withDrawing, nodeStep, edgeStep, turned, endStep, Lined, ClassRead, LabelRead, OtherRead, LineRead}
 use Rattle.lines.proofs.Naming.{fits-name}
 use Rattle.lines.proofs.Tests.{class-tested, label-tested, node-tested, edge-tested, header-tested}
 

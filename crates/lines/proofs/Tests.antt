@@ -13,7 +13,7 @@ use Rattle.tables.specs.Order.{pair}
 use Rattle.tables.proofs.Tests.{both-true}
 use Rattle.drawing.specs.Drawing.{node, edge}
 use Rattle.text.specs.Text.{fields, isName, isNumber, valueOf, same, find, known}
-use Rattle.text.specs.Parts.{part}
+use Rattle.text.specs.inner.Parts.{part}
 use Rattle.text.proofs.Parts.{part-nil, part-cons}
 use Rattle.lines.specs.Reading.{Reading, allow, turnTo, withClasses, withLabels, withNode, withEdge, withLine, fitsTable, readClass, readLabel, readNode, readEdge, readValues, endSection, readOpened, headers, readHeader, byStage, readLine}
 

@@ -18,9 +18,9 @@ ghost use lib.ListN.{length, getD};
 ghost use Rattle.tables.specs.Order.{pair};
 ghost use Rattle.drawing.specs.Builder.{withNode, withEdge};
 ghost use Rattle.text.specs.Text.{fields, isName, isNumber, same, known};
-ghost use Rattle.text.specs.Parts.{part, Inside, Two, Three, span, namesOf, Spans};
+ghost use Rattle.text.specs.inner.Parts.{part, Inside, Two, Three, span, namesOf, Spans};
 ghost use Rattle.lines.specs.Reading.{fitsTable, readClass, readLabel, readNode, readEdge, readValues, headers, readHeader, readLine};
-ghost use Rattle.lines.specs.State.{putLine, Ready, Numbered, Lined, lineWords, nodeStep, edgeStep, endStep, LineRead, ClassRead, LabelRead, OtherRead};
+ghost use Rattle.lines.specs.inner.State.{putLine, Ready, Numbered, Lined, lineWords, nodeStep, edgeStep, endStep, LineRead, ClassRead, LabelRead, OtherRead};
 
 // The classes, or the labels: their names by number, and how many lines they have. The lines stand in a lent slice, three words each.
 pub struct Tables {

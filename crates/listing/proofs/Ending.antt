@@ -11,7 +11,7 @@ use lib.ListN.{length, set, drop, replicate, length-replicate, replicate-append-
 use lib.Seq.{sets-eq, drop-length}
 use borrow.Author.Tests.{le-leb, lt-leb}
 use Rattle.listing.specs.Listing.{listedIn}
-use Rattle.listing.specs.Written.{Put, finished}
+use Rattle.listing.specs.inner.Written.{Put, finished}
 use Rattle.listing.proofs.Putting.{put-nothing, put-one, put-same, put-size, put-then}
 
 -- text from the start, as far as it fits

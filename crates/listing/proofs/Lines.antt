@@ -11,10 +11,10 @@ use lib.Dec.{eqb}
 use lib.ListN.{length, getD}
 use borrow.Author.Tests.{eq-eqb, ne-eqb}
 use Rattle.text.specs.Text.{bytes, digits}
-use Rattle.text.specs.Parts.{part}
+use Rattle.text.specs.inner.Parts.{part}
 use Rattle.text.proofs.Parts.{part-nil, part-cons}
 use Rattle.listing.specs.Listing.{line, refusal}
-use Rattle.listing.specs.Written.{Put, gap}
+use Rattle.listing.specs.inner.Written.{Put, gap}
 use Rattle.listing.proofs.Putting.{Putting, putting-start, putting-same, putting-some, putting-last}
 
 -- ---- what is left of a line

@@ -15,10 +15,10 @@ use Rattle.drawing.specs.declared.Node.{Node}
 use Rattle.drawing.specs.declared.Drawing.{Drawing}
 use Rattle.drawing.specs.Drawing.{node, isPicked}
 use Rattle.drawing.specs.Builder.{view}
-use Rattle.text.specs.Parts.{span, nameAt, namesOf, Spans}
+use Rattle.text.specs.inner.Parts.{span, nameAt, namesOf, Spans}
 use Rattle.text.specs.declared.Names.{Names}
 use Rattle.listing.specs.Listing.{line, pickedNames}
-use Rattle.listing.specs.Written.{Put, gap}
+use Rattle.listing.specs.inner.Written.{Put, gap}
 use Rattle.listing.proofs.Putting.{Putting, putting-start, putting-same, putting-some, putting-last}
 use Rattle.listing.proofs.Lines.{lineFrom, line-whole, line-next, line-end, map-cons}
 

@@ -9,7 +9,7 @@ use mathlib.Core.Path.{_≡_, refl, sym, ap, _∙_}
 use mathlib.Core.List.{List, [], _∷_, _++_, append-assoc, append-nil}
 use lib.ListN.{length, set, length-append}
 use lib.Seq.{sets, length-sets, set-out}
-use Rattle.listing.specs.Written.{Put}
+use Rattle.listing.specs.inner.Written.{Put}
 
 -- ---- a run of stores
 

@@ -11,10 +11,10 @@ use lib.ListN.{length, take, drop, length-append, length-drop, drop-of-length-le
 use lib.Seq.{take-at, drop-at, take-all, take-take, take-add, drop-drop, length-take-le}
 use Rattle.tables.specs.Lists.{_∈_}
 use Rattle.text.specs.Text.{digits}
-use Rattle.text.specs.Parts.{part}
+use Rattle.text.specs.inner.Parts.{part}
 use Rattle.text.proofs.Parts.{part-nil, length-part}
 use Rattle.listing.specs.Listing.{line}
-use Rattle.listing.specs.Written.{Put, rowsWithin, rowsOf, rowLines}
+use Rattle.listing.specs.inner.Written.{Put, rowsWithin, rowsOf, rowLines}
 use Rattle.listing.proofs.Putting.{Putting, putting-start, putting-same, putting-some, putting-end}
 
 -- ---- the first row and the rest

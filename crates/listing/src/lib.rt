@@ -9,9 +9,9 @@ ghost use mathlib.Core.List.{[], _∷_, _++_, map};
 ghost use lib.ListN.{length, getD, take, replicate};
 ghost use Rattle.drawing.specs.Builder.{view};
 ghost use Rattle.text.specs.Text.{digits};
-ghost use Rattle.text.specs.Parts.{part, Inside, span, nameAt, namesOf, Spans};
+ghost use Rattle.text.specs.inner.Parts.{part, Inside, span, nameAt, namesOf, Spans};
 ghost use Rattle.listing.specs.Listing.{line, pickedNames, listing, refusal, listedIn};
-ghost use Rattle.listing.specs.Written.{Put, gap, rowsOf, rowLines, listed, finished};
+ghost use Rattle.listing.specs.inner.Written.{Put, gap, rowsOf, rowLines, listed, finished};
 
 // One byte.
 fn put_byte(out: &mut [u8], at: usize, b: u8) -> usize

@@ -12,9 +12,9 @@ use lib.Seq.{drop-cons}
 use Rattle.tables.specs.declared.Pair.{Pair}
 use Rattle.tables.specs.Lists.{keep, count, below}
 use Rattle.lines.specs.Reading.{Entry}
-use Rattle.lines.specs.State.{entry, entriesOf, entries}
+use Rattle.lines.specs.inner.State.{entry, entriesOf, entries}
 use Rattle.reader.specs.Sheet.{linesOf}
-use Rattle.reader.specs.Answers.{grouped}
+use Rattle.reader.specs.inner.Answers.{grouped}
 
 -- ---- the lines from one on
 

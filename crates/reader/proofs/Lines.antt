@@ -13,15 +13,15 @@ use lib.Seq.{take-length}
 use Rattle.drawing.specs.Builder.{emptyDrawing}
 use Rattle.drawing.proofs.Builder.{view-empty, roomy-empty}
 use Rattle.text.specs.Text.{split}
-use Rattle.text.specs.Parts.{part, Cut, noNames}
+use Rattle.text.specs.inner.Parts.{part, Cut, noNames}
 use Rattle.text.proofs.Parts.{part-nil, part-cons}
 use Rattle.text.proofs.Spans.{names-none, spans-none}
 use Rattle.lines.specs.declared.State.{State}
 use Rattle.lines.specs.declared.Step.{Step}
 use Rattle.reader.specs.declared.Found.the-variants.{Whole, Breach}
 use Rattle.lines.specs.Reading.{nothing, allow, readLine}
-use Rattle.lines.specs.State.{entriesOf, entries, tablesRead, viewOf, mostBytes, Fine, Ready, LineRead}
-use Rattle.reader.specs.Answers.{noState, outcomeOf, LinesRead}
+use Rattle.lines.specs.inner.State.{entriesOf, entries, tablesRead, viewOf, mostBytes, Fine, Ready, LineRead}
+use Rattle.reader.specs.inner.Answers.{noState, outcomeOf, LinesRead}
 use Rattle.lines.proofs.Steps.{fine-later}
 use Rattle.reader.specs.Sheet.{finish, continue, endsAt, readLines}
 

@@ -16,7 +16,7 @@ use Rattle.tables.specs.declared.Pair.{Pair}
 use Rattle.tables.specs.Lists.{keep, count, below, total}
 use Rattle.lines.specs.Reading.{Entry}
 use Rattle.reader.specs.Sheet.{linesOf}
-use Rattle.reader.specs.Answers.{pairWords, grouped}
+use Rattle.reader.specs.inner.Answers.{pairWords, grouped}
 use Rattle.reader.proofs.Grouping.{line-in, line-out}
 
 -- ---- sums

@@ -20,13 +20,13 @@ use Rattle.text.proofs.Spans.{length-names}
 use Rattle.lines.specs.declared.State.{State}
 use Rattle.text.specs.Text.{split}
 use Rattle.lines.specs.Reading.{Entry, Reading, nothing}
-use Rattle.lines.specs.State.{entriesOf, entries, tablesRead, viewOf, mostBytes, Fine}
+use Rattle.lines.specs.inner.State.{entriesOf, entries, tablesRead, viewOf, mostBytes, Fine}
 use Rattle.reader.specs.Sheet.{breach, readLines, readSheet, linesOf, tablesOf, feedWords, drawingWords}
 use Rattle.reader.specs.declared.Scan.{Scan}
 use Rattle.reader.specs.declared.SheetWords.{SheetWords}
 use Rattle.reader.specs.declared.Found.{Found}
 use Rattle.reader.specs.declared.Found.the-variants.{Whole, Breach}
-use Rattle.reader.specs.Answers.{outcomeOf, LinesRead, Wrote, pairWords, nodeWords, edgeWords, grouped, Drawn, Countable, feedOf, drawingOf, Given, Answers, whole, broken}
+use Rattle.reader.specs.inner.Answers.{outcomeOf, LinesRead, Wrote, pairWords, nodeWords, edgeWords, grouped, Drawn, Countable, feedOf, drawingOf, Given, Answers, whole, broken}
 use Rattle.reader.proofs.Writing.{wrote-fits}
 use Rattle.reader.proofs.Sizes.{length-count, length-words}
 

@@ -9,7 +9,7 @@ use native.Mathlib.Omega.{arith}
 use native.Mathlib.Numerals.{add-one}
 use lib.ListN.{length, take, set, length-set, length-append, length-take}
 use lib.Seq.{take-suc-set}
-use Rattle.reader.specs.Answers.{Wrote}
+use Rattle.reader.specs.inner.Answers.{Wrote}
 
 pub wrote-one : (ws : List ℕ) (at w : ℕ) → at < length ws → Wrote ws (set ws at w) at (w ∷ []) (at + 1)
 wrote-one ws at w h = record { ends = refl; words = rw add-one (take-suc-set ws at w h); size = length-set ws at w }

@@ -31,7 +31,7 @@ use Rattle.lines.specs.Reading.{Reading}
 use Rattle.reader.specs.Sheet.{Outcome, readSheet, feedWords, drawingWords}
 use Rattle.reader.proofs.Words.{sheet-long}
 use Rattle.listing.specs.Listing.{line, pickedNames, listing, refusal, Listed, listedIn}
-use Rattle.listing.specs.Written.{rowLines, listed}
+use Rattle.listing.specs.inner.Written.{rowLines, listed}
 use Rattle.sheet.specs.SheetQuery.{ownSlices, answerText, outcomeText, sheetListing, sheetQuery, longestListing, decidingBytes}
 use Rattle.sheet.proofs.NodeNames.{Shorter, Few, Sheet, broken, whole, sheet-few}
 use Rattle.sheet.proofs.Picks.{row-length}

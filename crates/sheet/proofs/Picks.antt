@@ -10,7 +10,7 @@ use mathlib.Core.Bool.{Bool, true, false, cond}
 use mathlib.Core.Path.{_≡_, refl, sym, ap, _∙_}
 use mathlib.Core.Logic.{_≢_}
 use mathlib.Core.List.{List, [], _∷_, _++_, flatMap}
-use lib.ListN.{length, getD, take, drop, length-take}
+use lib.ListN.{length, getD, drop, length-take}
 use lib.Seq.{drop-cons, getD-take, drop-length}
 use borrow.Author.Tests.{eq-eqb, ne-eqb}
 use Rattle.tables.specs.Lists.{_∈_, keep}
@@ -25,7 +25,7 @@ use Rattle.drawing.proofs.Builder.{Roomy}
 use Rattle.drawing.proofs.Embeddings.{in-rows}
 use Rattle.rows.specs.Rows.{rowWords}
 use Rattle.query.specs.Query.{pickCount}
-use Rattle.listing.specs.Written.{rowsOf}
+use Rattle.listing.specs.inner.Written.{rowsOf}
 use Rattle.listing.proofs.Rows.{rows-joined}
 
 -- ---- a count

@@ -7,16 +7,15 @@ use Prim.Native.Nat.{ℕ, _*_, _-_, _≤_}
 use native.Mathlib.Omega.{arith}
 use mathlib.Core.Bool.{true, false}
 use mathlib.Core.Path.{_≡_, refl, sym, ap, _∙_}
-use mathlib.Core.List.{List, [], _∷_, _++_}
+use mathlib.Core.List.{List, [], _∷_}
 use lib.ListN.{length, take, drop}
 use lib.Seq.{take-append-seam}
-use Rattle.tables.specs.Lists.{_∈_, keep}
-use Rattle.tables.specs.Order.{Table, pair}
+use Rattle.tables.specs.Lists.{_∈_}
+use Rattle.tables.specs.Order.{Table}
 use Rattle.tables.specs.Verdict.{Verdict, accepted, refused, number, location, _then_, isAccepted}
 use Rattle.tables.proofs.Members.{any-true, in-keep}
 use Rattle.tables.proofs.Tests.{true-not-false, leb-is}
 use Rattle.tables.proofs.Verdict.{accepted-is, then-accepted, unless-accepted}
-use Rattle.feed.specs.Feed.{classTable}
 use Rattle.feed.proofs.Feed.{class-sides}
 use Rattle.drawing.specs.declared.Node.{Node}
 use Rattle.drawing.specs.Drawing.{Pattern, patternOf, nodeCount, isPicked, checkLength, checkDrawing}
@@ -30,16 +29,16 @@ use Rattle.query.specs.Query.{Answer, Lent, pickCount, answer, query}
 use Rattle.query.specs.Answers.{queryVerdict, extentIn, slices, Answers}
 use Rattle.query.specs.declared.QueryCheck.{QueryCheck}
 use Rattle.text.specs.declared.Names.{Names}
-use Rattle.text.specs.Parts.{namesOf}
+use Rattle.text.specs.inner.Parts.{namesOf}
 use Rattle.lines.specs.Reading.{Reading}
 use Rattle.reader.specs.declared.SheetWords.{SheetWords}
-use Rattle.reader.specs.Answers.{Given}
+use Rattle.reader.specs.inner.Answers.{Given}
 use Rattle.reader.specs.Sheet.{readSheet, breach, feedWords, drawingWords}
 use Rattle.reader.proofs.Words.{pattern-back}
-use Rattle.listing.specs.Listing.{pickedNames, listing, refusal, Listed, listedIn}
-use Rattle.listing.specs.Written.{rowsOf}
+use Rattle.listing.specs.Listing.{pickedNames, listing, refusal, listedIn}
+use Rattle.listing.specs.inner.Written.{rowsOf}
 use Rattle.sheet.specs.SheetQuery.{ownSlices, answerText, outcomeText, sheetListing, sheetQuery}
-use Rattle.sheet.specs.Printing.{Fresh, refusalOf, textBy, wordsText}
+use Rattle.sheet.specs.inner.Printing.{Fresh, refusalOf, textBy, wordsText}
 use Rattle.sheet.proofs.Picks.{rows-back}
 
 -- ---- the nodes of a drawing whose length is right

@@ -1,4 +1,4 @@
 pub mod Cases
-pub mod Printing
 pub mod SheetQuery
 pub mod Starred
+pub mod inner

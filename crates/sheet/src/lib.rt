@@ -22,16 +22,16 @@ ghost use Rattle.tables.specs.Verdict.{accepted, isAccepted};
 ghost use Rattle.drawing.specs.Drawing.{nodeCount, patternOf, checkLength};
 ghost use Rattle.drawing.specs.Builder.{view};
 ghost use Rattle.algebra.specs.Run.{roomOf};
-ghost use Rattle.run.specs.Standing.{Scratch};
+ghost use Rattle.run.specs.inner.Standing.{Scratch};
 ghost use Rattle.translate.specs.Answers.{translationVerdict};
 ghost use Rattle.query.specs.Query.{pickCount};
 ghost use Rattle.query.specs.Answers.{queryVerdict};
-ghost use Rattle.text.specs.Parts.{namesOf, Spans};
-ghost use Rattle.reader.specs.Answers.{Answers};
+ghost use Rattle.text.specs.inner.Parts.{namesOf, Spans};
+ghost use Rattle.reader.specs.inner.Answers.{Answers};
 ghost use Rattle.listing.specs.Listing.{pickedNames, listing, listedIn};
-ghost use Rattle.listing.specs.Written.{listed, rowsOf};
+ghost use Rattle.listing.specs.inner.Written.{listed, rowsOf};
 ghost use Rattle.sheet.specs.SheetQuery.{sheetQuery};
-ghost use Rattle.sheet.specs.Printing.{Sized, Fresh, refusalOf, wordsText};
+ghost use Rattle.sheet.specs.inner.Printing.{Sized, Fresh, refusalOf, wordsText};
 
 // Whether a translation was accepted.
 fn is_done(answer: TranslationCheck) -> bool

@@ -14,7 +14,7 @@ use lib.ListN.{length, getD, take, length-take, drop-of-length-le}
 use lib.Seq.{slice-cons, length-slice, length-take-le, take-suc, drop-append-le}
 use Rattle.text.specs.declared.Fields.{Fields}
 use Rattle.text.specs.Text.{split, addByte, fields, same}
-use Rattle.text.specs.Parts.{part, Cut, Fielded}
+use Rattle.text.specs.inner.Parts.{part, Cut, Fielded}
 
 -- ---- a part
 

@@ -12,7 +12,7 @@ use native.Mathlib.Decide.{ℕ-discrete}
 use lib.ListN.{length, getD, take, set, length-map, length-set}
 use lib.Seq.{slice, slice-cons, slice-empty, take-suc-set, length-take-le, getD-set-same, getD-set-other}
 use Rattle.text.specs.Text.{same, find}
-use Rattle.text.specs.Parts.{span, nameAt, namesOf, noNames, withName, Inside, Spans}
+use Rattle.text.specs.inner.Parts.{span, nameAt, namesOf, noNames, withName, Inside, Spans}
 use Rattle.text.specs.declared.Span.{Span}
 use Rattle.text.specs.declared.Names.{Names}
 

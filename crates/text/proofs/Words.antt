@@ -14,7 +14,7 @@ use lib.ListN.{length, getD}
 use Rattle.tables.specs.Lists.{all}
 use Rattle.tables.proofs.Tests.{both-true, leb-is}
 use Rattle.text.specs.Text.{within, isName, noLeadingZero, isNumber, valueFrom, valueOf}
-use Rattle.text.specs.Parts.{part, Inside}
+use Rattle.text.specs.inner.Parts.{part, Inside}
 use Rattle.text.proofs.Parts.{part-nil, part-cons, length-part}
 
 and-false : (b : Bool) → b && false ≡ false

@@ -6,7 +6,7 @@ ghost use mathlib.Core.Bool.{true};
 ghost use Prim.Native.Nat.{_<_};
 ghost use Rattle.tables.specs.Lists.{all};
 ghost use Rattle.text.specs.Text.{within, isName, isNumber, valueOf, same, find};
-ghost use Rattle.text.specs.Parts.{part, Inside, Cut, Fielded, span, namesOf, noNames, withName, Spans};
+ghost use Rattle.text.specs.inner.Parts.{part, Inside, Cut, Fielded, span, namesOf, noNames, withName, Spans};
 
 // A part of a slice.
 pub struct Span {

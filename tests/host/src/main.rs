@@ -5,6 +5,7 @@
 mod cases;
 mod checks;
 mod examples;
+#[path = "../../../include/matcher.rs"]
 mod matcher;
 #[allow(dead_code)]
 mod model;

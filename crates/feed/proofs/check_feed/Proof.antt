@@ -5,7 +5,8 @@ use native.Mathlib.Omega.{arith}
 use borrow.Author.Needs.{needs}
 use Rattle.tables.specs.Lists.{total}
 use Rattle.feed.specs.Feed.{classCount, labelCount, tableCount, counts, checkCounts}
-use Rattle.feed.specs.Answers.{feedVerdict, countsFound}
+use Rattle.feed.specs.Answers.{feedVerdict}
+use Rattle.feed.specs.inner.Parts.{countsFound}
 use Rattle.feed.specs.declared.Counts.the-variants.{Sum}
 use Rattle.feed.proofs.Checks.{Head, no-head, many-classes, many-labels, no-counts, count-over, wrong-length, right-length, sum-small, is-exact}
 use Rattle.feed.proofs.check_feed.Statement.{statement}

@@ -4,7 +4,8 @@ use Prim.Native.Nat.{_+_, _*_}
 use borrow.Author.Needs.{needs}
 use Rattle.tables.specs.Verdict.{Verdict}
 use Rattle.feed.specs.Feed.{checkPair}
-use Rattle.feed.specs.Answers.{before, pairFrom, feedVerdict}
+use Rattle.feed.specs.Answers.{feedVerdict}
+use Rattle.feed.specs.inner.Parts.{before, pairFrom}
 use Rattle.feed.proofs.Pairs.{not-ordered, not-even, pair-passes}
 use Rattle.feed.proofs.check_pair.Statement.{statement}
 use Rattle.feed.proofs.check_pair.Tie as tie

@@ -5,7 +5,7 @@ use Prim.Native.Nat.{ℕ, _+_, _*_, _-_, _≤_}
 use native.Mathlib.Omega.{arith}
 use Rattle.tables.specs.Lists.{total}
 use Rattle.feed.specs.Feed.{counts, checkCounts}
-use Rattle.feed.specs.Answers.{countsFound}
+use Rattle.feed.specs.inner.Parts.{countsFound}
 use Rattle.feed.proofs.Checks.{countsLeft, counts-start, counts-over, counts-pass, counts-end}
 use Rattle.feed.proofs.sum_counts.Statement.{statement}
 use Rattle.feed.proofs.sum_counts.Tie as tie

@@ -1,6 +1,6 @@
 -- `lines::end_section` meets its contract. Assumes nothing.
 use borrow.Author.Tests.{lt-ltb, le-ltb}
-use Rattle.lines.specs.State.{turned, endStep}
+use Rattle.lines.specs.inner.State.{turned, endStep}
 use borrow.Author.Needs.{needs}
 use Rattle.lines.proofs.end_section.Statement.{statement}
 use Rattle.lines.proofs.end_section.Tie as tie

@@ -1,7 +1,7 @@
 -- `lines::is_header` meets its contract: the four name lines, byte by byte. Assumes nothing.
 use mathlib.Core.Path.{_≡_}
 use Rattle.text.specs.Text.{bytes}
-use Rattle.text.specs.Parts.{part}
+use Rattle.text.specs.inner.Parts.{part}
 use Rattle.lines.specs.Reading.{headers}
 use borrow.Author.Needs.{needs}
 use native.Mathlib.Omega.{arith}

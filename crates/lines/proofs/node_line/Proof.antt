@@ -2,11 +2,11 @@
 use mathlib.Core.Path.{_∙_, sym}
 use mathlib.Core.Bool.{false}
 use Prim.Native.Nat.{_+_}
-use Rattle.text.specs.Parts.{part, namesOf}
+use Rattle.text.specs.inner.Parts.{part, namesOf}
 use Rattle.text.proofs.Parts.{wrong-count}
 use Rattle.text.proofs.Spans.{spans-wider}
 use Rattle.lines.specs.Reading.{allow}
-use Rattle.lines.specs.State.{viewOf, tablesRead}
+use Rattle.lines.specs.inner.State.{viewOf, tablesRead}
 use Rattle.lines.proofs.Naming.{find-small}
 use Rattle.lines.proofs.Tests.{pick-passed, node-fields, node-tested}
 use Rattle.lines.proofs.Steps.{other-refused, node-read}

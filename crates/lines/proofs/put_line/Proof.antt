@@ -1,7 +1,7 @@
 -- `lines::put_line` meets its contract: three stores. Assumes nothing.
 use lib.ListN.{length-set}
 use mathlib.Core.Path.{refl}
-use Rattle.lines.specs.State.{putLine}
+use Rattle.lines.specs.inner.State.{putLine}
 use borrow.Author.Needs.{needs}
 use native.Mathlib.Omega.{arith}
 use Rattle.lines.proofs.put_line.Statement.{statement}

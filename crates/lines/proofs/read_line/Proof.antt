@@ -1,5 +1,5 @@
 -- `lines::read_line` meets its contract: a name line, a line of values, or the end of a section. Assumes nothing.
-use Rattle.lines.specs.State.{viewOf}
+use Rattle.lines.specs.inner.State.{viewOf}
 use Rattle.lines.proofs.Tests.{header-first, line-of-values, line-of-end}
 use Rattle.lines.proofs.Steps.{section-ended, of-other, read-as}
 use borrow.Author.Needs.{needs}

@@ -1,6 +1,6 @@
 -- `lines::value_line` meets its contract: by the section. Assumes nothing.
 use mathlib.Core.Path.{_≡_}
-use Rattle.lines.specs.State.{viewOf}
+use Rattle.lines.specs.inner.State.{viewOf}
 use Rattle.lines.proofs.Tests.{values-of}
 use Rattle.lines.proofs.Steps.{of-class, of-label, of-other, read-as}
 use borrow.Author.Needs.{needs}

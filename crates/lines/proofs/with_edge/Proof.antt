@@ -1,5 +1,5 @@
 -- `lines::with_edge` meets its contract. Assumes nothing.
-use Rattle.lines.specs.State.{stepBy, withDrawing, edgeStep}
+use Rattle.lines.specs.inner.State.{stepBy, withDrawing, edgeStep}
 use borrow.Author.Needs.{needs}
 use Rattle.lines.proofs.with_edge.Statement.{statement}
 use Rattle.lines.proofs.with_edge.Tie as tie

@@ -1,14 +1,10 @@
 -- `lines::with_line` meets its contract: the name is numbered, and the line is written behind the others. Assumes nothing.
-use Rattle.text.specs.Parts.{part}
+use Rattle.text.specs.inner.Parts.{part}
 use Rattle.text.proofs.Spans.{spans-wider}
 use Rattle.lines.proofs.Naming.{find-small}
 use Rattle.lines.proofs.Entries.{lined}
 use borrow.Author.Needs.{needs}
 use native.Mathlib.Omega.{arith}
-use Rattle.text.specs.Parts.{part}
-use Rattle.text.proofs.Spans.{spans-wider}
-use Rattle.lines.proofs.Naming.{find-small}
-use Rattle.lines.proofs.Entries.{lined}
 use native.Mathlib.Omega.{arith}
 use Rattle.lines.proofs.with_line.Statement.{statement}
 use Rattle.lines.proofs.with_line.Tie as tie

@@ -1,5 +1,5 @@
 -- `lines::with_node` meets its contract. Assumes nothing.
-use Rattle.lines.specs.State.{stepBy, withDrawing, nodeStep}
+use Rattle.lines.specs.inner.State.{stepBy, withDrawing, nodeStep}
 use borrow.Author.Needs.{needs}
 use Rattle.lines.proofs.with_node.Statement.{statement}
 use Rattle.lines.proofs.with_node.Tie as tie

@@ -2,7 +2,7 @@
 use borrow.Author.Needs.{needs}
 use mathlib.Core.Path.{ap}
 use borrow.Author.Tests.{le-leb, lt-leb}
-use Rattle.listing.specs.Written.{listed, finished}
+use Rattle.listing.specs.inner.Written.{listed, finished}
 use Rattle.listing.proofs.finish.Statement.{statement}
 use Rattle.listing.proofs.finish.Tie as tie
 

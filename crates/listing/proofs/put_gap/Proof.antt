@@ -1,6 +1,6 @@
 -- `listing::put_gap` meets its contract: nothing, or a space. Assumes nothing.
 use borrow.Author.Needs.{needs}
-use Rattle.listing.specs.Written.{gap}
+use Rattle.listing.specs.inner.Written.{gap}
 use Rattle.listing.proofs.Putting.{put-nothing}
 use Rattle.listing.proofs.put_gap.Statement.{statement}
 use Rattle.listing.proofs.put_gap.Tie as tie

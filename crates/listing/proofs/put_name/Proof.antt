@@ -1,6 +1,6 @@
 -- `listing::put_name` meets its contract: what stands before the field, then the name. Assumes nothing.
 use borrow.Author.Needs.{needs}
-use Rattle.text.specs.Parts.{nameAt}
+use Rattle.text.specs.inner.Parts.{nameAt}
 use Rattle.listing.proofs.Putting.{put-then}
 use Rattle.listing.proofs.put_name.Statement.{statement}
 use Rattle.listing.proofs.put_name.Tie as tie

@@ -2,7 +2,7 @@
 use Prim.Native.Nat.{_-_}
 use native.Mathlib.Omega.{arith}
 use borrow.Author.Needs.{needs}
-use Rattle.text.specs.Parts.{part}
+use Rattle.text.specs.inner.Parts.{part}
 use Rattle.text.proofs.Parts.{part-nil, part-cons}
 use Rattle.listing.proofs.Putting.{put-size, Putting, putting-start, putting-same, putting-byte, putting-end}
 use Rattle.listing.proofs.put_text.Statement.{statement}

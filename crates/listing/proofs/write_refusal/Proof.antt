@@ -2,7 +2,7 @@
 use borrow.Author.Needs.{needs}
 use mathlib.Core.Path.{refl, _∙_}
 use Rattle.text.specs.Text.{bytes}
-use Rattle.text.specs.Parts.{part}
+use Rattle.text.specs.inner.Parts.{part}
 use Rattle.listing.proofs.Putting.{put-same, put-then}
 use Rattle.listing.proofs.Lines.{refusal-text}
 use Rattle.listing.proofs.Ending.{finished-listed}

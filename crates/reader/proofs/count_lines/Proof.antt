@@ -3,7 +3,7 @@ use mathlib.Core.Path.{_≡_, ap}
 use Prim.Native.Nat.{_+_, _-_, _≤_}
 use lib.ListN.{length}
 use Rattle.reader.specs.Sheet.{linesOf}
-use Rattle.lines.specs.State.{entries}
+use Rattle.lines.specs.inner.State.{entries}
 use Rattle.reader.proofs.Grouping.{linesFrom, lines-all, lines-in, lines-out, lines-done}
 use native.Mathlib.Omega.{arith}
 use Rattle.reader.proofs.count_lines.Statement.{statement}

@@ -1,5 +1,5 @@
 -- `reader::empty` meets its contract. Assumes nothing.
-use Rattle.reader.specs.Answers.{noState}
+use Rattle.reader.specs.inner.Answers.{noState}
 use borrow.Author.Needs.{needs}
 use Rattle.reader.proofs.empty.Statement.{statement}
 use Rattle.reader.proofs.empty.Tie as tie

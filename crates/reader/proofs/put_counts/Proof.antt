@@ -3,8 +3,8 @@ use mathlib.Core.Path.{ap}
 use mathlib.Core.List.{[], _∷_, map}
 use Prim.Native.Nat.{_-_, _+_, _≤_}
 use lib.ListN.{length}
-use Rattle.lines.specs.State.{entries}
-use Rattle.reader.specs.Answers.{grouped}
+use Rattle.lines.specs.inner.State.{entries}
+use Rattle.reader.specs.inner.Answers.{grouped}
 use Rattle.reader.proofs.Writing.{Writing, write-starts, write-more, write-room, write-ends}
 use Rattle.reader.proofs.Grouping.{tablesFrom, tables-all, tables-more, tables-done}
 use Rattle.reader.proofs.Words.{length-grouped}

@@ -3,7 +3,7 @@ use mathlib.Core.Path.{refl}
 use lib.ListN.{take}
 use lib.Seq.{length-take-le}
 use Rattle.drawing.specs.Builder.{view}
-use Rattle.reader.specs.Answers.{nodeWords}
+use Rattle.reader.specs.inner.Answers.{nodeWords}
 use Rattle.reader.proofs.Writing.{wrote-then, wrote-as}
 use Rattle.reader.proofs.Sizes.{length-words}
 use Rattle.reader.proofs.Words.{drawing-parts}

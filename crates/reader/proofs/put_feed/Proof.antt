@@ -1,7 +1,7 @@
 -- `reader::put_feed` meets its contract: two counts, a count for each table, and the pairs of each table. Assumes nothing.
 use mathlib.Core.Path.{_≡_}
 use lib.ListN.{length}
-use Rattle.lines.specs.State.{entries}
+use Rattle.lines.specs.inner.State.{entries}
 use Rattle.reader.proofs.Writing.{wrote-then, wrote-as}
 use Rattle.reader.proofs.Sizes.{tables-bound}
 use Rattle.reader.proofs.Words.{length-entries, length-grouped, feed-parts}

@@ -4,8 +4,8 @@ use mathlib.Core.List.{[], _∷_, flatMap}
 use Prim.Native.Nat.{_-_, _+_, _*_, _≤_}
 use lib.ListN.{getD}
 use Rattle.reader.specs.Sheet.{linesOf}
-use Rattle.lines.specs.State.{entries}
-use Rattle.reader.specs.Answers.{pairWords}
+use Rattle.lines.specs.inner.State.{entries}
+use Rattle.reader.specs.inner.Answers.{pairWords}
 use Rattle.reader.proofs.Writing.{Writing, write-starts, write-more, write-skips, write-room, write-ends}
 use Rattle.reader.proofs.Grouping.{linesFrom, lines-all, lines-in, lines-out, lines-done}
 use native.Mathlib.Omega.{arith}

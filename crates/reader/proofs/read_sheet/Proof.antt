@@ -1,5 +1,5 @@
 -- `reader::read_sheet` meets its contract: too long, a breach, or all lines read and their words written. Assumes nothing.
-use Rattle.reader.specs.Answers.{whole, broken}
+use Rattle.reader.specs.inner.Answers.{whole, broken}
 use Rattle.reader.proofs.Words.{countable, drawn, sheet-long, sheet-broken, sheet-given}
 use borrow.Author.Needs.{needs}
 use native.Mathlib.Omega.{arith}

@@ -1,7 +1,7 @@
 -- `sheet::print_refusal` meets its contract.
 -- Assumes nothing.
 use borrow.Author.Needs.{needs}
-use Rattle.sheet.specs.Printing.{refusalOf}
+use Rattle.sheet.specs.inner.Printing.{refusalOf}
 use Rattle.sheet.proofs.print_refusal.Statement.{statement}
 use Rattle.sheet.proofs.print_refusal.Tie as tie
 

@@ -1,7 +1,7 @@
 -- `text::find_name` meets its contract. The loop's invariant: none of the names passed is the one. Assumes nothing.
 use Prim.Native.Nat.{_-_}
 use mathlib.Core.Path.{_≡_, refl, _∙_, sym}
-use Rattle.text.specs.Parts.{part, nameAt}
+use Rattle.text.specs.inner.Parts.{part, nameAt}
 use Rattle.text.proofs.Spans.{Finding, find-starts, find-stops, find-goes-on, find-ends}
 use native.Mathlib.Omega.{arith}
 use Rattle.text.proofs.find_name.Statement.{statement}

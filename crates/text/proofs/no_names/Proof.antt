@@ -1,6 +1,6 @@
 -- `text::no_names` meets its contract. Assumes nothing.
 use mathlib.Core.Path.{refl}
-use Rattle.text.specs.Parts.{noNames}
+use Rattle.text.specs.inner.Parts.{noNames}
 use Rattle.text.proofs.no_names.Statement.{statement}
 use Rattle.text.proofs.no_names.Tie as tie
 

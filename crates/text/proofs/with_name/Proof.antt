@@ -1,6 +1,6 @@
 -- `text::with_name` meets its contract. Assumes nothing.
 use mathlib.Core.Path.{refl}
-use Rattle.text.specs.Parts.{withName}
+use Rattle.text.specs.inner.Parts.{withName}
 use borrow.Author.Needs.{needs}
 use Rattle.text.proofs.with_name.Statement.{statement}
 use Rattle.text.proofs.with_name.Tie as tie

@@ -3,7 +3,7 @@ use mathlib.Core.Bool.{and-true}
 use borrow.Author.Needs.{needs}
 use Rattle.feed.specs.Feed.{classCount, labelCount}
 use Rattle.algebra.specs.Instructions.{isOperand}
-use Rattle.algebra.specs.Answers.{operandsOf, areOperands}
+use Rattle.algebra.specs.inner.Parts.{operandsOf, areOperands}
 use Rattle.algebra.proofs.check.are_operands.Statement.{statement}
 use Rattle.algebra.proofs.check.are_operands.Tie as tie
 

@@ -8,7 +8,8 @@ use Rattle.feed.specs.Answers.{feedVerdict}
 use Rattle.feed.proofs.Feed.{feed-accepted}
 use Rattle.feed.proofs.Answers.{refuses}
 use Rattle.algebra.specs.Instructions.{checkInstructions}
-use Rattle.algebra.specs.Answers.{instructionVerdict, checkInstructionList}
+use Rattle.algebra.specs.Answers.{instructionVerdict}
+use Rattle.algebra.specs.inner.Parts.{checkInstructionList}
 use Rattle.algebra.proofs.check.check_instructions.Statement.{statement}
 use Rattle.algebra.proofs.check.check_instructions.Tie as tie
 

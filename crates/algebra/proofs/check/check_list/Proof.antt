@@ -3,7 +3,8 @@ use borrow.Author.Needs.{needs}
 use borrow.Author.Tests.{le-leb, lt-leb, eq-eqb, ne-eqb}
 use Rattle.tables.specs.Verdict.{unless, _then_}
 use Rattle.algebra.specs.Instructions.{instructionCeiling}
-use Rattle.algebra.specs.Answers.{instructionVerdict, checkInstructionList}
+use Rattle.algebra.specs.Answers.{instructionVerdict}
+use Rattle.algebra.specs.inner.Parts.{checkInstructionList}
 use Rattle.algebra.proofs.check.check_list.Statement.{statement}
 use Rattle.algebra.proofs.check.check_list.Tie as tie
 

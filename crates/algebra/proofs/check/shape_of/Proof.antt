@@ -1,7 +1,7 @@
 -- `algebra::check::shape_of` meets its contract: each arm by the kinds that it holds. Assumes nothing.
 use native.Mathlib.Omega.{arith}
 use Rattle.algebra.specs.Instructions.{signatures}
-use Rattle.algebra.specs.Answers.{operandsOf}
+use Rattle.algebra.specs.inner.Parts.{operandsOf}
 use Rattle.algebra.proofs.Signatures.{two-registers, one-register, register-and-value, unknown}
 use Rattle.algebra.proofs.check.shape_of.Statement.{statement}
 use Rattle.algebra.proofs.check.shape_of.Tie as tie

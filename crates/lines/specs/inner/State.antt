@@ -18,7 +18,7 @@ use Rattle.drawing.specs.declared.Line.the-variants.{Added, Full}
 use Rattle.drawing.specs.Builder.{view}
 use Rattle.text.specs.declared.Span.{Span}
 use Rattle.text.specs.declared.Names.{Names}
-use Rattle.text.specs.Parts.{Inside, namesOf, withName, Spans}
+use Rattle.text.specs.inner.Parts.{Inside, namesOf, withName, Spans}
 use Rattle.lines.specs.declared.Tables.{Tables}
 use Rattle.lines.specs.declared.State.{State}
 use Rattle.lines.specs.declared.Step.{Step}

@@ -14,10 +14,10 @@ use Rattle.drawing.specs.declared.Node.{Node}
 use Rattle.drawing.specs.declared.Edge.{Edge}
 use Rattle.drawing.specs.declared.Drawing.{Drawing}
 use Rattle.drawing.specs.Builder.{emptyDrawing, view}
-use Rattle.text.specs.Parts.{namesOf, noNames, Spans}
+use Rattle.text.specs.inner.Parts.{namesOf, noNames, Spans}
 use Rattle.lines.specs.declared.State.{State}
 use Rattle.lines.specs.Reading.{Entry, Reading}
-use Rattle.lines.specs.State.{viewOf, Fine}
+use Rattle.lines.specs.inner.State.{viewOf, Fine}
 use Rattle.reader.specs.Sheet.{Outcome, read, breach, readSheet, linesOf, feedWords, drawingWords}
 use Rattle.reader.specs.declared.Scan.{Scan}
 use Rattle.reader.specs.declared.Found.{Found}

@@ -5,15 +5,14 @@
 use Prim.Native.Nat.{ℕ, _≤_}
 use mathlib.Core.Path.{_≡_}
 use mathlib.Core.List.{List}
-use lib.ListN.{length}
 use Rattle.tables.specs.Verdict.{Verdict, accepted, refused, number, location}
 use Rattle.drawing.specs.declared.Drawing.{Drawing}
 use Rattle.drawing.specs.Drawing.{patternOf}
 use Rattle.drawing.specs.Embeddings.{rows}
-use Rattle.query.specs.Query.{Lent, query}
+use Rattle.query.specs.Query.{query}
 use Rattle.query.specs.Answers.{slices}
 use Rattle.text.specs.declared.Names.{Names}
-use Rattle.text.specs.Parts.{namesOf}
+use Rattle.text.specs.inner.Parts.{namesOf}
 use Rattle.listing.specs.Listing.{pickedNames, listing, refusal}
 use Rattle.sheet.specs.SheetQuery.{ownSlices}
 
