@@ -8,7 +8,7 @@ use mathlib.Core.Path.{_≡_, refl}
 use mathlib.Core.Logic.{_↔_, _⊎_, inl, inr, ⊎-elim, ⊎-map}
 use mathlib.Core.Bool.{Bool, true, false, not, _||_}
 use mathlib.Core.List.{List, [], _∷_, List·Memᴰ·head as here, List·Memᴰ·tail as there, List·Memᴰ·not-nil, List·Memᴰ·cases-cons}
-use Prim.Native.Nat.{ℕ, suc, _+_, _*_, _-_, _<_, _≤_, Ordering, Ordering·lt, Ordering·eq, Ordering·gt}
+use Prim.Native.Nat.{ℕ, suc, _+_, _*_, _-_, _<_, _≤_, Ordering·lt}
 use native.Mathlib.Omega.{arith}
 use native.Mathlib.Decide.{decLt}
 use lib.ListN.{length, getD, take, drop, length-take, List·getD-eq-default}
@@ -16,20 +16,15 @@ use lib.Seq.{getD-drop}
 use lib.Dec.{ltb}
 use Rattle.tables.specs.declared.Pair.{Pair}
 use Rattle.tables.specs.Lists.{_∈_, total}
-use Rattle.tables.specs.Order.{Ascending, none, more, Table, pair, comparePair, isLess}
+use Rattle.tables.specs.Order.{Ascending, none, more, Table, pair, comparePair}
 use Rattle.tables.specs.Verdict.{accepted}
 use Rattle.tables.proofs.Tests.{both-true, eqb-is, leb-is, ltb-is}
 use Rattle.tables.proofs.Members.{At, first, later, getD-at, at-in}
-use Rattle.tables.proofs.Orders.{pairs}
+use Rattle.tables.proofs.Orders.{is-less, pairs}
 use Rattle.tables.proofs.Verdict.{then-accepted, unless-accepted}
 use Rattle.feed.specs.Feed.{classCount, labelCount, tableCount, counts, body, pairsOf, tables, cut, classTable, labelTable, checkCounts, above, checkPair, checkPairs, checkTables, checkFeed}
 
 -- pairs that were checked
-is-less : (c : Ordering) → isLess c ≡ true → c ≡ Ordering·lt
-is-less Ordering·lt e = refl
-is-less Ordering·eq e = cc
-is-less Ordering·gt e = cc
-
 ascending-more : {p q : Pair} {ps : Table} → comparePair q p ≡ Ordering·lt → Ascending comparePair (p ∷ ps) → Ascending comparePair (q ∷ p ∷ ps)
 ascending-more {p} {q} l (more h a) = more (λ y m. ⊎-elim (λ e. rw e l) (λ k. pairs .trans q p y l (h y k)) (List·Memᴰ·cases-cons m)) (more h a)
 
