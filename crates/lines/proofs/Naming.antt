@@ -10,10 +10,11 @@ use native.Mathlib.Omega.{arith}
 use borrow.Author.Tests.{le-leb, leb-true}
 use lib.Dec.{leb, ltb}
 use lib.ListN.{length, length-append}
+use lib.Seq.{slice}
 use Rattle.tables.proofs.Tests.{both-true}
 use Rattle.text.specs.declared.Names.{Names}
 use Rattle.text.specs.Text.{isName, same, find, known}
-use Rattle.text.specs.inner.Parts.{part, Inside, span, nameAt, namesOf, withName, Spans}
+use Rattle.text.specs.inner.Parts.{Inside, span, nameAt, namesOf, withName, Spans}
 use Rattle.text.proofs.Spans.{length-names, names-longer, spans-longer}
 use Rattle.lines.specs.Reading.{numbered, fitsTable}
 use Rattle.lines.specs.inner.State.{Numbered}
@@ -65,19 +66,19 @@ fits-name ceiling name names t = both-true (isName name) _ .0 t .0
 -- ---- the names with one that fits
 
 module _ {s : List ℕ} {x : Names} {ceiling : ℕ} (g : Spans s x ceiling) (c : ceiling ≤ 64) {a e : ℕ} (i : Inside s a e) where
-  pub stays-numbered : known (part s a e) (namesOf s x) ≡ true → Numbered s (part s a e) ceiling x x
+  pub stays-numbered : known (slice a e s) (namesOf s x) ≡ true → Numbered s (slice a e s) ceiling x x
   unfolding numbered
   stays-numbered k = record { names = rw k; spans = g }
 
-  pub new-fits : fitsTable ceiling (part s a e) (namesOf s x) ≡ true → known (part s a e) (namesOf s x) ≡ false → x .n + 1 ≤ ceiling
+  pub new-fits : fitsTable ceiling (slice a e s) (namesOf s x) ≡ true → known (slice a e s) (namesOf s x) ≡ false → x .n + 1 ≤ ceiling
   unfolding fitsTable numbered
   new-fits t k =
-      let h = leb-true _ ceiling (rw k at (both-true (isName (part s a e)) (leb (length (numbered (part s a e) (namesOf s x))) ceiling) .0 t .1)) in
-      let l = length-append (namesOf s x) (part s a e ∷ []) in
+      let h = leb-true _ ceiling (rw k at (both-true (isName (slice a e s)) (leb (length (numbered (slice a e s) (namesOf s x))) ceiling) .0 t .1)) in
+      let l = length-append (namesOf s x) (slice a e s ∷ []) in
       omega (arith, length-names g c)
 
-  pub new-numbered : fitsTable ceiling (part s a e) (namesOf s x) ≡ true → known (part s a e) (namesOf s x) ≡ false →
-      Numbered s (part s a e) ceiling x (withName x (span a e))
+  pub new-numbered : fitsTable ceiling (slice a e s) (namesOf s x) ≡ true → known (slice a e s) (namesOf s x) ≡ false →
+      Numbered s (slice a e s) ceiling x (withName x (span a e))
   unfolding numbered nameAt
   new-numbered t k =
       let n = new-fits t k in

@@ -12,7 +12,7 @@ use native.Mathlib.Decide.{decLt}
 use borrow.Author.Tests.{le-ltb, lt-ltb, ltb-true}
 use lib.Dec.{ltb}
 use lib.ListN.{length, getD}
-use lib.Seq.{length-take-le}
+use lib.Seq.{slice, length-slice, length-take-le}
 use Rattle.tables.specs.Order.{pair}
 use Rattle.tables.proofs.Tests.{both-true}
 use Rattle.drawing.specs.declared.Line.the-variants.{Added, Full}
@@ -20,8 +20,7 @@ use Rattle.drawing.specs.Drawing.{node, edge}
 use Rattle.drawing.specs.Builder.{view, withNode, withEdge}
 use Rattle.drawing.proofs.Builder.{Roomy, moreNodes, moreEdges, node-full, node-added, node-roomy, view-node, edge-full, edge-added, edge-roomy, view-edge}
 use Rattle.text.specs.Text.{fields, isName, isNumber, valueOf, same, find, known}
-use Rattle.text.specs.inner.Parts.{part, Inside, Two, Three, span, nameAt, namesOf, withName}
-use Rattle.text.proofs.Parts.{length-part}
+use Rattle.text.specs.inner.Parts.{Inside, Two, Three, span, nameAt, namesOf, withName}
 use Rattle.text.proofs.Words.{name-length, number}
 use Rattle.text.proofs.Spans.{names-longer, spans-longer}
 use Rattle.lines.specs.declared.Tables.{Tables}
@@ -51,11 +50,11 @@ pub after-line : {s : List ℕ} {a e : ℕ} {x : State} → Ready s a e x → Fi
 after-line g = fine-later (g .fine) (omega (arith, g .inside .ordered))
 
 -- a name or a number has a byte
-some-name : (s : List ℕ) (a e : ℕ) → e ≤ length s → isName (part s a e) ≡ true → 1 ≤ e - a
-some-name s a e k t = let h = name-length (part s a e) t in omega (arith, length-part s a e k)
+some-name : (s : List ℕ) (a e : ℕ) → e ≤ length s → isName (slice a e s) ≡ true → 1 ≤ e - a
+some-name s a e k t = let h = name-length (slice a e s) t in omega (arith, length-slice a e s k)
 
-some-number : (s : List ℕ) (a e : ℕ) → e ≤ length s → isNumber (part s a e) ≡ true → 1 ≤ e - a
-some-number s a e k t = let h = number (part s a e) t .some in omega (arith, length-part s a e k)
+some-number : (s : List ℕ) (a e : ℕ) → e ≤ length s → isNumber (slice a e s) ≡ true → 1 ≤ e - a
+some-number s a e k t = let h = number (slice a e s) t .some in omega (arith, length-slice a e s k)
 
 -- ---- a breach
 
@@ -75,18 +74,18 @@ module _ {s : List ℕ} {a e : ℕ} {x : State} (g : Ready s a e x) {read : Read
 -- ---- a class line, a label line
 
 module _ {s : List ℕ} {a e : ℕ} {x : State} (g : Ready s a e x) {ws ws′ : List ℕ} where
-  pub class-read : {m u : ℕ} {t : Tables} → Two s a e m → (fitsTable 32 (part s a m) (namesOf s (x .classes .names)) && isNumber (part s (m + 1) e)) ≡ true →
-      u ≡ valueOf (part s (m + 1) e) → Lined s (part s a m) 32 (pair u u) ws ws′ (x .classes) t →
+  pub class-read : {m u : ℕ} {t : Tables} → Two s a e m → (fitsTable 32 (slice a m s) (namesOf s (x .classes .names)) && isNumber (slice (m + 1) e s)) ≡ true →
+      u ≡ valueOf (slice (m + 1) e s) → Lined s (slice a m s) 32 (pair u u) ws ws′ (x .classes) t →
       ClassRead s ws ws′ e x
       (record { read = true; state = record { section = x .section; opened = x .opened; classes = t; labels = x .labels; nodes = x .nodes; drawing = x .drawing } })
-      (λ v. readClass v (fields (part s a e)))
+      (λ v. readClass v (fields (slice a e s)))
   unfolding viewOf allow withClasses tablesRead
   class-read {m} {u} {t} w test value l =
       let f = g .fine in
-      let b = both-true (fitsTable 32 (part s a m) (namesOf s (x .classes .names))) (isNumber (part s (m + 1) e)) .0 test in
+      let b = both-true (fitsTable 32 (slice a m s) (namesOf s (x .classes .names))) (isNumber (slice (m + 1) e s)) .0 test in
       let i = g .inside in
       let k : m ≤ length s = omega (arith, w .before, i .ends) in
-      let n : 1 ≤ m - a = some-name s a m k (fits-name 32 (part s a m) _ (b .0)) in
+      let n : 1 ≤ m - a = some-name s a m k (fits-name 32 (slice a m s) _ (b .0)) in
       let o : 1 ≤ e - (m + 1) = some-number s (m + 1) e (i .ends) (b .1) in
       record {
         answer = λ vs.
@@ -106,15 +105,15 @@ module _ {s : List ℕ} {a e : ℕ} {x : State} (g : Ready s a e x) {ws ws′ : 
       }
 
   pub label-read : {m k p q : ℕ} {t : Tables} → Three s a e m k →
-      (fitsTable 64 (part s a m) (namesOf s (x .labels .names)) && isNumber (part s (m + 1) k) && isNumber (part s (k + 1) e)) ≡ true →
-      p ≡ valueOf (part s (m + 1) k) → q ≡ valueOf (part s (k + 1) e) → Lined s (part s a m) 64 (pair p q) ws ws′ (x .labels) t →
+      (fitsTable 64 (slice a m s) (namesOf s (x .labels .names)) && isNumber (slice (m + 1) k s) && isNumber (slice (k + 1) e s)) ≡ true →
+      p ≡ valueOf (slice (m + 1) k s) → q ≡ valueOf (slice (k + 1) e s) → Lined s (slice a m s) 64 (pair p q) ws ws′ (x .labels) t →
       LabelRead s ws ws′ e x
       (record { read = true; state = record { section = x .section; opened = x .opened; classes = x .classes; labels = t; nodes = x .nodes; drawing = x .drawing } })
-      (λ v. readLabel v (fields (part s a e)))
+      (λ v. readLabel v (fields (slice a e s)))
   unfolding viewOf allow withLabels tablesRead
   label-read {m} {k} {p} {q} {t} w test left right l =
       let f = g .fine in
-      let b = both-true (fitsTable 64 (part s a m) (namesOf s (x .labels .names)) && isNumber (part s (m + 1) k)) (isNumber (part s (k + 1) e)) .0 test in
+      let b = both-true (fitsTable 64 (slice a m s) (namesOf s (x .labels .names)) && isNumber (slice (m + 1) k s)) (isNumber (slice (k + 1) e s)) .0 test in
       let i = g .inside in
       let y : 1 ≤ e - (k + 1) = some-number s (k + 1) e (i .ends) (b .1) in
       record {
@@ -191,7 +190,7 @@ module _ {s : List ℕ} {a e : ℕ} {x : State} (g : Ready s a e x) where
       }
 
   node-more : (m c p : ℕ) → x .drawing .n < 12 → (ws vs : List ℕ) →
-      viewOf s ws vs (withDrawing (withName (x .nodes) (span a m)) (withNode (x .drawing) c p .drawing) x) ≡ addNode (part s a m) (node c p) (viewOf s ws vs x)
+      viewOf s ws vs (withDrawing (withName (x .nodes) (span a m)) (withNode (x .drawing) c p .drawing) x) ≡ addNode (slice a m s) (node c p) (viewOf s ws vs x)
   unfolding viewOf withDrawing addNode moreNodes nameAt
   node-more m c p h ws vs =
       let room : x .nodes .n < 64 = omega (arith, g .fine .drawn) in
@@ -204,14 +203,14 @@ module _ {s : List ℕ} {a e : ℕ} {x : State} (g : Ready s a e x) where
 
   -- fields that are right: the drawing decides whether there is room
   module _ {m k : ℕ} (w : Three s a e m k) where
-    module _ (test : (isName (part s a m) && not (known (part s a m) (namesOf s (x .nodes))) && known (part s (m + 1) k) (namesOf s (x .classes .names)) && isNumber (part s (k + 1) e)) ≡ true) where
+    module _ (test : (isName (slice a m s) && not (known (slice a m s) (namesOf s (x .nodes))) && known (slice (m + 1) k s) (namesOf s (x .classes .names)) && isNumber (slice (k + 1) e s)) ≡ true) where
       class : ℕ
-      class = find (part s (m + 1) k) (namesOf s (x .classes .names))
+      class = find (slice (m + 1) k s) (namesOf s (x .classes .names))
 
       pick : ℕ
-      pick = valueOf (part s (k + 1) e)
+      pick = valueOf (slice (k + 1) e s)
 
-      node-roomed : x .drawing .n < 12 → OtherRead s e x (nodeStep x (span a m) (withNode (x .drawing) class pick)) (λ v. readNode v (fields (part s a e)))
+      node-roomed : x .drawing .n < 12 → OtherRead s e x (nodeStep x (span a m) (withNode (x .drawing) class pick)) (λ v. readNode v (fields (slice a e s)))
       unfolding nodeStep stepBy allow viewOf tablesRead class pick
       node-roomed h =
           let l : withNode (x .drawing) class pick .line ≡ Added = rw (node-added (x .drawing) class pick h) in
@@ -221,33 +220,33 @@ module _ {s : List ℕ} {a e : ℕ} {x : State} (g : Ready s a e x) where
             fine = node-fits m class pick (w .from) (omega (arith, w .between, w .before)) h;
           })
 
-      node-crowded : 12 ≤ x .drawing .n → OtherRead s e x (nodeStep x (span a m) (withNode (x .drawing) class pick)) (λ v. readNode v (fields (part s a e)))
+      node-crowded : 12 ≤ x .drawing .n → OtherRead s e x (nodeStep x (span a m) (withNode (x .drawing) class pick)) (λ v. readNode v (fields (slice a e s)))
       unfolding nodeStep stepBy allow viewOf tablesRead class pick
       node-crowded h =
           let l : withNode (x .drawing) class pick .line ≡ Full = node-full (x .drawing) class pick .1 h in
           let b : ltb (length (view (x .drawing) .nodes)) 12 ≡ false = rw nodes-shown (le-ltb (x .drawing .n) 12 h) in
           rw l (record { answer = λ ws vs. rw b at (node-tested (viewOf s ws vs x) true (w .shown) test); fine = after-line g })
 
-      pub node-read : {r : Step} → r ≡ nodeStep x (span a m) (withNode (x .drawing) (find (part s (m + 1) k) (namesOf s (x .classes .names))) (valueOf (part s (k + 1) e))) →
-          OtherRead s e x r (λ v. readNode v (fields (part s a e)))
+      pub node-read : {r : Step} → r ≡ nodeStep x (span a m) (withNode (x .drawing) (find (slice (m + 1) k s) (namesOf s (x .classes .names))) (valueOf (slice (k + 1) e s))) →
+          OtherRead s e x r (λ v. readNode v (fields (slice a e s)))
       unfolding class pick
       node-read made = rw made (step (decLt (x .drawing .n) 12))
         where
-          step : Dec (x .drawing .n < 12) → OtherRead s e x (nodeStep x (span a m) (withNode (x .drawing) class pick)) (λ v. readNode v (fields (part s a e)))
+          step : Dec (x .drawing .n < 12) → OtherRead s e x (nodeStep x (span a m) (withNode (x .drawing) class pick)) (λ v. readNode v (fields (slice a e s)))
           step (yes h) = node-roomed h
           step (no h) = node-crowded (omega arith)
 
-    module _ (test : (known (part s a m) (namesOf s (x .labels .names)) && known (part s (m + 1) k) (namesOf s (x .nodes)) && known (part s (k + 1) e) (namesOf s (x .nodes))) ≡ true) where
+    module _ (test : (known (slice a m s) (namesOf s (x .labels .names)) && known (slice (m + 1) k s) (namesOf s (x .nodes)) && known (slice (k + 1) e s) (namesOf s (x .nodes))) ≡ true) where
       label : ℕ
-      label = find (part s a m) (namesOf s (x .labels .names))
+      label = find (slice a m s) (namesOf s (x .labels .names))
 
       source : ℕ
-      source = find (part s (m + 1) k) (namesOf s (x .nodes))
+      source = find (slice (m + 1) k s) (namesOf s (x .nodes))
 
       target : ℕ
-      target = find (part s (k + 1) e) (namesOf s (x .nodes))
+      target = find (slice (k + 1) e s) (namesOf s (x .nodes))
 
-      edge-roomed : x .drawing .e < 24 → OtherRead s e x (edgeStep x (withEdge (x .drawing) label source target)) (λ v. readEdge v (fields (part s a e)))
+      edge-roomed : x .drawing .e < 24 → OtherRead s e x (edgeStep x (withEdge (x .drawing) label source target)) (λ v. readEdge v (fields (slice a e s)))
       unfolding edgeStep stepBy allow viewOf tablesRead label source target
       edge-roomed h =
           let l : withEdge (x .drawing) label source target .line ≡ Added = rw (edge-added (x .drawing) label source target h) in
@@ -257,19 +256,19 @@ module _ {s : List ℕ} {a e : ℕ} {x : State} (g : Ready s a e x) where
             fine = edge-fits label source target h;
           })
 
-      edge-crowded : 24 ≤ x .drawing .e → OtherRead s e x (edgeStep x (withEdge (x .drawing) label source target)) (λ v. readEdge v (fields (part s a e)))
+      edge-crowded : 24 ≤ x .drawing .e → OtherRead s e x (edgeStep x (withEdge (x .drawing) label source target)) (λ v. readEdge v (fields (slice a e s)))
       unfolding edgeStep stepBy allow viewOf tablesRead label source target
       edge-crowded h =
           let l : withEdge (x .drawing) label source target .line ≡ Full = edge-full (x .drawing) label source target .1 h in
           let b : ltb (length (view (x .drawing) .edges)) 24 ≡ false = rw edges-shown (le-ltb (x .drawing .e) 24 h) in
           rw l (record { answer = λ ws vs. rw b at (edge-tested (viewOf s ws vs x) true (w .shown) test); fine = after-line g })
 
-      pub edge-read : {r : Step} → r ≡ edgeStep x (withEdge (x .drawing) (find (part s a m) (namesOf s (x .labels .names))) (find (part s (m + 1) k) (namesOf s (x .nodes))) (find (part s (k + 1) e) (namesOf s (x .nodes)))) →
-          OtherRead s e x r (λ v. readEdge v (fields (part s a e)))
+      pub edge-read : {r : Step} → r ≡ edgeStep x (withEdge (x .drawing) (find (slice a m s) (namesOf s (x .labels .names))) (find (slice (m + 1) k s) (namesOf s (x .nodes))) (find (slice (k + 1) e s) (namesOf s (x .nodes)))) →
+          OtherRead s e x r (λ v. readEdge v (fields (slice a e s)))
       unfolding label source target
       edge-read made = rw made (step (decLt (x .drawing .e) 24))
         where
-          step : Dec (x .drawing .e < 24) → OtherRead s e x (edgeStep x (withEdge (x .drawing) label source target)) (λ v. readEdge v (fields (part s a e)))
+          step : Dec (x .drawing .e < 24) → OtherRead s e x (edgeStep x (withEdge (x .drawing) label source target)) (λ v. readEdge v (fields (slice a e s)))
           step (yes h) = edge-roomed h
           step (no h) = edge-crowded (omega arith)
 
@@ -290,19 +289,19 @@ module _ {s : List ℕ} {a e : ℕ} {x : State} (g : Ready s a e x) where
     lines = f .lines;
   }
 
-  pub header-read : same (part s a e) (getD headers (x .section) []) ≡ true →
+  pub header-read : same (slice a e s) (getD headers (x .section) []) ≡ true →
       OtherRead s e x
       (record { read = true; state = record { section = x .section; opened = true; classes = x .classes; labels = x .labels; nodes = x .nodes; drawing = x .drawing } })
-      (λ v. readHeader v (part s a e))
+      (λ v. readHeader v (slice a e s))
   unfolding viewOf allow turnTo turned
   header-read t = record {
-    answer = λ ws vs. header-tested (viewOf s ws vs x) (part s a e) true t;
+    answer = λ ws vs. header-tested (viewOf s ws vs x) (slice a e s) true t;
     fine = turned-fine (x .section) true (g .fine .section);
   }
 
-  pub header-refused : same (part s a e) (getD headers (x .section) []) ≡ false → OtherRead s e x (record { read = false; state = x }) (λ v. readHeader v (part s a e))
+  pub header-refused : same (slice a e s) (getD headers (x .section) []) ≡ false → OtherRead s e x (record { read = false; state = x }) (λ v. readHeader v (slice a e s))
   unfolding viewOf allow
-  header-refused t = other-refused g (λ ws vs. header-tested (viewOf s ws vs x) (part s a e) false t)
+  header-refused t = other-refused g (λ ws vs. header-tested (viewOf s ws vs x) (slice a e s) false t)
 
   ended : (ws vs : List ℕ) (b : Bool) → ltb (x .section) 3 ≡ b → allow b (viewOf s ws vs (turned (x .section + 1) false x)) ≡ endSection (viewOf s ws vs x)
   unfolding endSection viewOf turned turnTo

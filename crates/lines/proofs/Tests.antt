@@ -9,32 +9,32 @@ use mathlib.Core.Option.{none}
 use Prim.Native.Nat.{ℕ, _+_, _<_, _≤_}
 use lib.Dec.{ltb}
 use lib.ListN.{length, getD}
+use lib.Seq.{slice}
 use Rattle.tables.specs.Order.{pair}
 use Rattle.tables.proofs.Tests.{both-true}
+use Rattle.tables.proofs.Parts.{slice-none, slice-next}
 use Rattle.drawing.specs.Drawing.{node, edge}
 use Rattle.text.specs.Text.{fields, isName, isNumber, valueOf, same, find, known}
-use Rattle.text.specs.inner.Parts.{part}
-use Rattle.text.proofs.Parts.{part-nil, part-cons}
 use Rattle.lines.specs.Reading.{Reading, allow, turnTo, withClasses, withLabels, withNode, withEdge, withLine, fitsTable, readClass, readLabel, readNode, readEdge, readValues, endSection, readOpened, headers, readHeader, byStage, readLine}
 
 -- ---- the parts of the tests
 
-pub class-passed : (s : List ℕ) (a m e : ℕ) (names : List (List ℕ)) → (fitsTable 32 (part s a m) names && isNumber (part s (m + 1) e)) ≡ true →
-    (fitsTable 32 (part s a m) names ≡ true) × (isNumber (part s (m + 1) e) ≡ true)
-class-passed s a m e names t = both-true (fitsTable 32 (part s a m) names) (isNumber (part s (m + 1) e)) .0 t
+pub class-passed : (s : List ℕ) (a m e : ℕ) (names : List (List ℕ)) → (fitsTable 32 (slice a m s) names && isNumber (slice (m + 1) e s)) ≡ true →
+    (fitsTable 32 (slice a m s) names ≡ true) × (isNumber (slice (m + 1) e s) ≡ true)
+class-passed s a m e names t = both-true (fitsTable 32 (slice a m s) names) (isNumber (slice (m + 1) e s)) .0 t
 
 module _ (s : List ℕ) (a m k e : ℕ) where
-  pub label-passed : (names : List (List ℕ)) → (fitsTable 64 (part s a m) names && isNumber (part s (m + 1) k) && isNumber (part s (k + 1) e)) ≡ true →
-      (fitsTable 64 (part s a m) names ≡ true) × (isNumber (part s (m + 1) k) ≡ true) × (isNumber (part s (k + 1) e) ≡ true)
+  pub label-passed : (names : List (List ℕ)) → (fitsTable 64 (slice a m s) names && isNumber (slice (m + 1) k s) && isNumber (slice (k + 1) e s)) ≡ true →
+      (fitsTable 64 (slice a m s) names ≡ true) × (isNumber (slice (m + 1) k s) ≡ true) × (isNumber (slice (k + 1) e s) ≡ true)
   label-passed names t =
-      let r = both-true (fitsTable 64 (part s a m) names && isNumber (part s (m + 1) k)) (isNumber (part s (k + 1) e)) .0 t in
-      let l = both-true (fitsTable 64 (part s a m) names) (isNumber (part s (m + 1) k)) .0 (r .0) in
+      let r = both-true (fitsTable 64 (slice a m s) names && isNumber (slice (m + 1) k s)) (isNumber (slice (k + 1) e s)) .0 t in
+      let l = both-true (fitsTable 64 (slice a m s) names) (isNumber (slice (m + 1) k s)) .0 (r .0) in
       (l .0, l .1, r .1)
 
-  pub pick-passed : (nodes classes : List (List ℕ)) → (isName (part s a m) && not (known (part s a m) nodes) && known (part s (m + 1) k) classes && isNumber (part s (k + 1) e)) ≡ true →
-      isNumber (part s (k + 1) e) ≡ true
+  pub pick-passed : (nodes classes : List (List ℕ)) → (isName (slice a m s) && not (known (slice a m s) nodes) && known (slice (m + 1) k s) classes && isNumber (slice (k + 1) e s)) ≡ true →
+      isNumber (slice (k + 1) e s) ≡ true
   pick-passed nodes classes t =
-      both-true (isName (part s a m) && not (known (part s a m) nodes) && known (part s (m + 1) k) classes) (isNumber (part s (k + 1) e)) .0 t .1
+      both-true (isName (slice a m s) && not (known (slice a m s) nodes) && known (slice (m + 1) k s) classes) (isNumber (slice (k + 1) e s)) .0 t .1
 
 -- ---- the lines
 
@@ -106,10 +106,10 @@ module _ (v : Reading) where
   unfolding readLine byStage
   header-first line o = rw o
 
-  pub line-of-values : (s : List ℕ) (a e : ℕ) → v .opened ≡ true → a < e → e ≤ length s → readValues v (fields (part s a e)) ≡ readLine v (part s a e)
+  pub line-of-values : (s : List ℕ) (a e : ℕ) → v .opened ≡ true → a < e → e ≤ length s → readValues v (fields (slice a e s)) ≡ readLine v (slice a e s)
   unfolding readLine byStage readOpened
-  line-of-values s a e o h k = rw (o, part-cons s a e h k)
+  line-of-values s a e o h k = rw (o, slice-next s a e h k)
 
-  pub line-of-end : (s : List ℕ) (a e : ℕ) → v .opened ≡ true → e ≤ a → endSection v ≡ readLine v (part s a e)
+  pub line-of-end : (s : List ℕ) (a e : ℕ) → v .opened ≡ true → e ≤ a → endSection v ≡ readLine v (slice a e s)
   unfolding readLine byStage readOpened
-  line-of-end s a e o h = rw (o, part-nil s a e h)
+  line-of-end s a e o h = rw (o, slice-none s a e h)

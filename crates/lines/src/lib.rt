@@ -15,10 +15,11 @@ ghost use mathlib.Core.Bool.{true, not, _&&_};
 ghost use mathlib.Core.List.{[]};
 ghost use Prim.Native.Nat.{_+_, _*_, _≤_, _<_};
 ghost use lib.ListN.{length, getD};
+ghost use lib.Seq.{slice};
 ghost use Rattle.tables.specs.Order.{pair};
 ghost use Rattle.drawing.specs.Builder.{withNode, withEdge};
 ghost use Rattle.text.specs.Text.{fields, isName, isNumber, same, known};
-ghost use Rattle.text.specs.inner.Parts.{part, Inside, Two, Three, span, namesOf, Spans};
+ghost use Rattle.text.specs.inner.Parts.{Inside, Two, Three, span, namesOf, Spans};
 ghost use Rattle.lines.specs.Reading.{fitsTable, readClass, readLabel, readNode, readEdge, readValues, headers, readHeader, readLine};
 ghost use Rattle.lines.specs.inner.State.{putLine, Ready, Numbered, Lined, lineWords, nodeStep, edgeStep, endStep, LineRead, ClassRead, LabelRead, OtherRead};
 
@@ -50,7 +51,7 @@ pub struct Step {
 // Whether a part of the sheet is one of the names.
 fn knows(s: &[u8], a: usize, e: usize, names: Names) -> bool
     requires { ⌜ Inside (now s) a e ⌝ ∗ ⌜ Spans (now s) names 64 ⌝ }
-    ensures { λ r. ⌜ r ≡ known (part (now (s .entry)) a e) (namesOf (now (s .entry)) names) ⌝ }
+    ensures { λ r. ⌜ r ≡ known (slice a e (now (s .entry))) (namesOf (now (s .entry)) names) ⌝ }
 {
     find_name(s, a, e, names) < names.n
 }
@@ -58,15 +59,15 @@ fn knows(s: &[u8], a: usize, e: usize, names: Names) -> bool
 // Whether a part is a name which is known, or for which there is room.
 fn fits(s: &[u8], a: usize, e: usize, names: Names, ceiling: usize) -> bool
     requires { ⌜ Inside (now s) a e ⌝ ∗ ⌜ (Spans (now s) names ceiling) × (ceiling ≤ 64) ⌝ }
-    ensures { λ r. ⌜ r ≡ fitsTable ceiling (part (now (s .entry)) a e) (namesOf (now (s .entry)) names) ⌝ }
+    ensures { λ r. ⌜ r ≡ fitsTable ceiling (slice a e (now (s .entry))) (namesOf (now (s .entry)) names) ⌝ }
 {
     is_name(s, a, e) & ((names.n < ceiling) | knows(s, a, e, names))
 }
 
 // The names, and this one where it is new.
 fn numbered(s: &[u8], a: usize, e: usize, names: Names, ceiling: usize) -> Names
-    requires { ⌜ Inside (now s) a e ⌝ ∗ ⌜ (Spans (now s) names ceiling) × (ceiling ≤ 64) × (fitsTable ceiling (part (now s) a e) (namesOf (now s) names) ≡ true) ⌝ }
-    ensures { λ r. ⌜ Numbered (now (s .entry)) (part (now (s .entry)) a e) ceiling names r ⌝ }
+    requires { ⌜ Inside (now s) a e ⌝ ∗ ⌜ (Spans (now s) names ceiling) × (ceiling ≤ 64) × (fitsTable ceiling (slice a e (now s)) (namesOf (now s) names) ≡ true) ⌝ }
+    ensures { λ r. ⌜ Numbered (now (s .entry)) (slice a e (now (s .entry))) ceiling names r ⌝ }
 {
     if knows(s, a, e, names) {
         return names;
@@ -95,8 +96,8 @@ fn with_line(
     left: u32,
     right: u32,
 ) -> Tables
-    requires { ⌜ Inside (now s) a e ⌝ ∗ ⌜ (Spans (now s) (t .names) ceiling) × (ceiling ≤ 64) × (fitsTable ceiling (part (now s) a e) (namesOf (now s) (t .names)) ≡ true) ⌝ ∗ ⌜ 3 * t .lines + 2 < length (now rows) ⌝ }
-    ensures { λ r. ⌜ Lined (now (s .entry)) (part (now (s .entry)) a e) ceiling (pair left right) (now (rows .entry)) (now (rows .exit)) t r ⌝ }
+    requires { ⌜ Inside (now s) a e ⌝ ∗ ⌜ (Spans (now s) (t .names) ceiling) × (ceiling ≤ 64) × (fitsTable ceiling (slice a e (now s)) (namesOf (now s) (t .names)) ≡ true) ⌝ ∗ ⌜ 3 * t .lines + 2 < length (now rows) ⌝ }
+    ensures { λ r. ⌜ Lined (now (s .entry)) (slice a e (now (s .entry))) ceiling (pair left right) (now (rows .entry)) (now (rows .exit)) t r ⌝ }
 {
     let old = t.names;
     let lines = t.lines;
@@ -114,7 +115,7 @@ fn with_line(
 // Whether two fields, with their separator at m, make a class line.
 fn is_class(s: &[u8], a: usize, m: usize, e: usize, classes: Names) -> bool
     requires { ⌜ Spans (now s) classes 32 ⌝ ∗ ⌜ Two (now s) a e m ⌝ ∗ ⌜ Inside (now s) a e ⌝ }
-    ensures { λ r. ⌜ r ≡ (fitsTable 32 (part (now (s .entry)) a m) (namesOf (now (s .entry)) classes) && isNumber (part (now (s .entry)) (m + 1) e)) ⌝ }
+    ensures { λ r. ⌜ r ≡ (fitsTable 32 (slice a m (now (s .entry))) (namesOf (now (s .entry)) classes) && isNumber (slice (m + 1) e (now (s .entry)))) ⌝ }
 {
     fits(s, a, m, classes, 32) & is_number(s, m + 1, e)
 }
@@ -122,7 +123,7 @@ fn is_class(s: &[u8], a: usize, m: usize, e: usize, classes: Names) -> bool
 // A class line.
 fn class_line(rows: &mut [u32], s: &[u8], a: usize, e: usize, x: State) -> Step
     requires { ⌜ Ready (now s) a e x ⌝ ∗ ⌜ lineWords ≤ length (now rows) ⌝ }
-    ensures { λ r. ⌜ ClassRead (now (s .entry)) (now (rows .entry)) (now (rows .exit)) e x r (λ v. readClass v (fields (part (now (s .entry)) a e))) ⌝ }
+    ensures { λ r. ⌜ ClassRead (now (s .entry)) (now (rows .entry)) (now (rows .exit)) e x r (λ v. readClass v (fields (slice a e (now (s .entry))))) ⌝ }
 {
     let classes = x.classes;
     let f = fields_of(s, a, e);
@@ -151,7 +152,7 @@ fn class_line(rows: &mut [u32], s: &[u8], a: usize, e: usize, x: State) -> Step
 // Whether three fields, with their separators at m and k, make a label line.
 fn is_label(s: &[u8], a: usize, m: usize, k: usize, e: usize, labels: Names) -> bool
     requires { ⌜ Spans (now s) labels 64 ⌝ ∗ ⌜ Three (now s) a e m k ⌝ ∗ ⌜ Inside (now s) a e ⌝ }
-    ensures { λ r. ⌜ r ≡ (fitsTable 64 (part (now (s .entry)) a m) (namesOf (now (s .entry)) labels) && isNumber (part (now (s .entry)) (m + 1) k) && isNumber (part (now (s .entry)) (k + 1) e)) ⌝ }
+    ensures { λ r. ⌜ r ≡ (fitsTable 64 (slice a m (now (s .entry))) (namesOf (now (s .entry)) labels) && isNumber (slice (m + 1) k (now (s .entry))) && isNumber (slice (k + 1) e (now (s .entry)))) ⌝ }
 {
     fits(s, a, m, labels, 64) & is_number(s, m + 1, k) & is_number(s, k + 1, e)
 }
@@ -159,7 +160,7 @@ fn is_label(s: &[u8], a: usize, m: usize, k: usize, e: usize, labels: Names) -> 
 // A label line.
 fn label_line(rows: &mut [u32], s: &[u8], a: usize, e: usize, x: State) -> Step
     requires { ⌜ Ready (now s) a e x ⌝ ∗ ⌜ lineWords ≤ length (now rows) ⌝ }
-    ensures { λ r. ⌜ LabelRead (now (s .entry)) (now (rows .entry)) (now (rows .exit)) e x r (λ v. readLabel v (fields (part (now (s .entry)) a e))) ⌝ }
+    ensures { λ r. ⌜ LabelRead (now (s .entry)) (now (rows .entry)) (now (rows .exit)) e x r (λ v. readLabel v (fields (slice a e (now (s .entry))))) ⌝ }
 {
     let labels = x.labels;
     let f = fields_of(s, a, e);
@@ -190,7 +191,7 @@ fn label_line(rows: &mut [u32], s: &[u8], a: usize, e: usize, x: State) -> Step
 // Whether three fields make a node line, but for the room in the drawing.
 fn is_node(s: &[u8], a: usize, m: usize, k: usize, e: usize, classes: Names, nodes: Names) -> bool
     requires { ⌜ Spans (now s) classes 64 ⌝ ∗ ⌜ Spans (now s) nodes 64 ⌝ ∗ ⌜ Three (now s) a e m k ⌝ ∗ ⌜ Inside (now s) a e ⌝ }
-    ensures { λ r. ⌜ r ≡ (isName (part (now (s .entry)) a m) && not (known (part (now (s .entry)) a m) (namesOf (now (s .entry)) nodes)) && known (part (now (s .entry)) (m + 1) k) (namesOf (now (s .entry)) classes) && isNumber (part (now (s .entry)) (k + 1) e)) ⌝ }
+    ensures { λ r. ⌜ r ≡ (isName (slice a m (now (s .entry))) && not (known (slice a m (now (s .entry))) (namesOf (now (s .entry)) nodes)) && known (slice (m + 1) k (now (s .entry))) (namesOf (now (s .entry)) classes) && isNumber (slice (k + 1) e (now (s .entry)))) ⌝ }
 {
     is_name(s, a, m) & !knows(s, a, m, nodes) & knows(s, m + 1, k, classes) & is_number(s, k + 1, e)
 }
@@ -225,7 +226,7 @@ fn with_node(x: State, a: usize, m: usize, class: u32, pick: u32) -> Step
 // A node line.
 fn node_line(s: &[u8], a: usize, e: usize, x: State) -> Step
     requires { ⌜ Ready (now s) a e x ⌝ }
-    ensures { λ r. ⌜ OtherRead (now (s .entry)) e x r (λ v. readNode v (fields (part (now (s .entry)) a e))) ⌝ }
+    ensures { λ r. ⌜ OtherRead (now (s .entry)) e x r (λ v. readNode v (fields (slice a e (now (s .entry))))) ⌝ }
 {
     let classes = x.classes;
     let f = fields_of(s, a, e);
@@ -251,7 +252,7 @@ fn node_line(s: &[u8], a: usize, e: usize, x: State) -> Step
 // Whether three fields make an edge line, but for the room in the drawing.
 fn is_edge(s: &[u8], a: usize, m: usize, k: usize, e: usize, labels: Names, nodes: Names) -> bool
     requires { ⌜ Spans (now s) labels 64 ⌝ ∗ ⌜ Spans (now s) nodes 64 ⌝ ∗ ⌜ Three (now s) a e m k ⌝ ∗ ⌜ Inside (now s) a e ⌝ }
-    ensures { λ r. ⌜ r ≡ (known (part (now (s .entry)) a m) (namesOf (now (s .entry)) labels) && known (part (now (s .entry)) (m + 1) k) (namesOf (now (s .entry)) nodes) && known (part (now (s .entry)) (k + 1) e) (namesOf (now (s .entry)) nodes)) ⌝ }
+    ensures { λ r. ⌜ r ≡ (known (slice a m (now (s .entry))) (namesOf (now (s .entry)) labels) && known (slice (m + 1) k (now (s .entry))) (namesOf (now (s .entry)) nodes) && known (slice (k + 1) e (now (s .entry))) (namesOf (now (s .entry)) nodes)) ⌝ }
 {
     knows(s, a, m, labels) & knows(s, m + 1, k, nodes) & knows(s, k + 1, e, nodes)
 }
@@ -283,7 +284,7 @@ fn with_edge(x: State, label: u32, source: u32, target: u32) -> Step
 // An edge line.
 fn edge_line(s: &[u8], a: usize, e: usize, x: State) -> Step
     requires { ⌜ Ready (now s) a e x ⌝ }
-    ensures { λ r. ⌜ OtherRead (now (s .entry)) e x r (λ v. readEdge v (fields (part (now (s .entry)) a e))) ⌝ }
+    ensures { λ r. ⌜ OtherRead (now (s .entry)) e x r (λ v. readEdge v (fields (slice a e (now (s .entry))))) ⌝ }
 {
     let labels = x.labels;
     let nodes = x.nodes;
@@ -313,7 +314,7 @@ fn edge_line(s: &[u8], a: usize, e: usize, x: State) -> Step
 // Whether a line is the name line of a section.
 fn is_header(s: &[u8], a: usize, e: usize, section: usize) -> bool
     requires { ⌜ Inside (now s) a e ⌝ ∗ ⌜ section ≤ 3 ⌝ }
-    ensures { λ r. ⌜ r ≡ same (part (now (s .entry)) a e) (getD headers section []) ⌝ }
+    ensures { λ r. ⌜ r ≡ same (slice a e (now (s .entry))) (getD headers section []) ⌝ }
 {
     if section == 0 {
         return same_text(s, a, e, b"class object", 0, 12);
@@ -330,7 +331,7 @@ fn is_header(s: &[u8], a: usize, e: usize, section: usize) -> bool
 // A line where a name line must stand.
 fn header_line(s: &[u8], a: usize, e: usize, x: State) -> Step
     requires { ⌜ Ready (now s) a e x ⌝ }
-    ensures { λ r. ⌜ OtherRead (now (s .entry)) e x r (λ v. readHeader v (part (now (s .entry)) a e)) ⌝ }
+    ensures { λ r. ⌜ OtherRead (now (s .entry)) e x r (λ v. readHeader v (slice a e (now (s .entry)))) ⌝ }
 {
     if is_header(s, a, e, x.section) {
         let mut y = x;
@@ -377,7 +378,7 @@ fn value_line(
     x: State,
 ) -> Step
     requires { ⌜ Ready (now s) a e x ⌝ ∗ ⌜ lineWords ≤ length (now classes) ⌝ ∗ ⌜ lineWords ≤ length (now labels) ⌝ }
-    ensures { λ r. ⌜ LineRead (now (s .entry)) (now (classes .entry)) (now (classes .exit)) (now (labels .entry)) (now (labels .exit)) e x r (λ v. readValues v (fields (part (now (s .entry)) a e))) ⌝ }
+    ensures { λ r. ⌜ LineRead (now (s .entry)) (now (classes .entry)) (now (classes .exit)) (now (labels .entry)) (now (labels .exit)) e x r (λ v. readValues v (fields (slice a e (now (s .entry))))) ⌝ }
 {
     let section = x.section;
     if section == 0 {
@@ -402,7 +403,7 @@ pub fn read_line(
     x: State,
 ) -> Step
     requires { ⌜ Ready (now s) a e x ⌝ ∗ ⌜ lineWords ≤ length (now classes) ⌝ ∗ ⌜ lineWords ≤ length (now labels) ⌝ }
-    ensures { λ r. ⌜ LineRead (now (s .entry)) (now (classes .entry)) (now (classes .exit)) (now (labels .entry)) (now (labels .exit)) e x r (λ v. readLine v (part (now (s .entry)) a e)) ⌝ }
+    ensures { λ r. ⌜ LineRead (now (s .entry)) (now (classes .entry)) (now (classes .exit)) (now (labels .entry)) (now (labels .exit)) e x r (λ v. readLine v (slice a e (now (s .entry)))) ⌝ }
 {
     if x.opened {
         if a < e {

@@ -9,10 +9,10 @@ use mathlib.Core.Bool.{Bool, true, false}
 use mathlib.Core.List.{List, [], _∷_, _++_, map, append-assoc}
 use lib.Dec.{eqb}
 use lib.ListN.{length, getD}
+use lib.Seq.{slice}
 use borrow.Author.Tests.{eq-eqb, ne-eqb}
+use Rattle.tables.proofs.Parts.{slice-none, slice-next}
 use Rattle.text.specs.Text.{bytes, digits}
-use Rattle.text.specs.inner.Parts.{part}
-use Rattle.text.proofs.Parts.{part-nil, part-cons}
 use Rattle.listing.specs.Listing.{line, refusal}
 use Rattle.listing.specs.inner.Written.{Put, gap}
 use Rattle.listing.proofs.Putting.{Putting, putting-start, putting-same, putting-some, putting-last}
@@ -44,20 +44,17 @@ line-end first e = rw e
 
 -- ---- the line of a row
 
-pub map-cons : {A B : Type 0} (f : A → B) {x : A} {xs ys : List A} → ys ≡ x ∷ xs → map f ys ≡ f x ∷ map f xs
-map-cons f e = rw e
-
 -- the words from number i on are left of the row that starts at a
 pub record Lining (before after : List ℕ) (at : ℕ) (ws : List ℕ) (a e i k : ℕ) : Type 0 where
   pub from : a ≤ i
   pub upTo : i ≤ e
-  pub putting : Putting before after at (line (map digits (part ws a e))) (lineFrom (eqb i a) (map digits (part ws i e))) k
+  pub putting : Putting before after at (line (map digits (slice a e ws))) (lineFrom (eqb i a) (map digits (slice i e ws))) k
 
 pub lining-start : (out : List ℕ) (at : ℕ) (ws : List ℕ) (a e : ℕ) → a ≤ e → Lining out out at ws a e a at
 lining-start out at ws a e h = record {
   from = omega arith;
   upTo = h;
-  putting = rw (eq-eqb a a refl) (putting-same (line-whole (map digits (part ws a e))) (putting-start out at (line (map digits (part ws a e)))));
+  putting = rw (eq-eqb a a refl) (putting-same (line-whole (map digits (slice a e ws))) (putting-start out at (line (map digits (slice a e ws)))));
 }
 
 module _ {before after : List ℕ} {at : ℕ} {ws : List ℕ} {a e i k : ℕ} (l : Lining before after at ws a e i k) {new : List ℕ} {r : ℕ} where
@@ -69,11 +66,11 @@ module _ {before after : List ℕ} {at : ℕ} {ws : List ℕ} {a e i k : ℕ} (l
         upTo = omega arith;
         putting =
             rw (ne-eqb (i + 1) a (λ z. omega arith))
-            (putting-some (putting-same (line-next (eqb i a) (map-cons digits (part-cons ws i e h inside))) (l .putting)) p);
+            (putting-some (putting-same (line-next (eqb i a) (ap (map digits) (slice-next ws i e h inside))) (l .putting)) p);
       }
 
-  pub lining-end : e ≤ i → Put after new k (10 ∷ []) r → Put before new at (line (map digits (part ws a e))) r
-  lining-end h p = putting-last (putting-same (line-end (eqb i a) (ap (map digits) (part-nil ws i e h))) (l .putting)) p
+  pub lining-end : e ≤ i → Put after new k (10 ∷ []) r → Put before new at (line (map digits (slice a e ws))) r
+  lining-end h p = putting-last (putting-same (line-end (eqb i a) (ap (map digits) (slice-none ws i e h))) (l .putting)) p
 
 -- ---- the line of a refusal
 

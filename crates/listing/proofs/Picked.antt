@@ -20,7 +20,7 @@ use Rattle.text.specs.declared.Names.{Names}
 use Rattle.listing.specs.Listing.{line, pickedNames}
 use Rattle.listing.specs.inner.Written.{Put, gap}
 use Rattle.listing.proofs.Putting.{Putting, putting-start, putting-same, putting-some, putting-last}
-use Rattle.listing.proofs.Lines.{lineFrom, line-whole, line-next, line-end, map-cons}
+use Rattle.listing.proofs.Lines.{lineFrom, line-whole, line-next, line-end}
 
 -- ---- the names from a node on
 
@@ -59,7 +59,7 @@ module _ {s : List ℕ} {x : Names} {d : Drawing} (g : Named s x d) (i : ℕ) (h
       let e = g .each in
       let r = g .room in
       rw add-one
-      (picked-cons (map-cons (nameAt s) (slice-cons i (x .n) (x .spans) (span 0 0) (omega arith) (omega arith))) (slice-cons i (d .n) (d .nodes) (node 0 0) h (omega arith)))
+      (picked-cons (ap (map (nameAt s)) (slice-cons i (x .n) (x .spans) (span 0 0) (omega arith) (omega arith))) (slice-cons i (d .n) (d .nodes) (node 0 0) h (omega arith)))
 
   picked-takes : getD (d .nodes) i (node 0 0) .pick ≡ 1 → pickedFrom s x d i ≡ nameAt s (getD (x .spans) i (span 0 0)) ∷ pickedFrom s x d (i + 1)
   unfolding isPicked

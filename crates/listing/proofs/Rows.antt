@@ -8,11 +8,10 @@ use native.Mathlib.Decide.{decLt}
 use mathlib.Core.Path.{_≡_, refl, sym, ap, _∙_}
 use mathlib.Core.List.{List, [], _∷_, _++_, map, flatMap, List·Memᴰ·head as here, List·Memᴰ·tail as there}
 use lib.ListN.{length, take, drop, length-append, length-drop, drop-of-length-le}
-use lib.Seq.{take-at, drop-at, take-all, take-take, take-add, drop-drop, length-take-le}
+use lib.Seq.{slice, length-slice, take-at, drop-at, take-all, take-take, take-add, drop-drop, length-take-le}
 use Rattle.tables.specs.Lists.{_∈_}
+use Rattle.tables.proofs.Parts.{slice-none}
 use Rattle.text.specs.Text.{digits}
-use Rattle.text.specs.inner.Parts.{part}
-use Rattle.text.proofs.Parts.{part-nil, length-part}
 use Rattle.listing.specs.Listing.{line}
 use Rattle.listing.specs.inner.Written.{Put, rowsWithin, rowsOf, rowLines}
 use Rattle.listing.proofs.Putting.{Putting, putting-start, putting-same, putting-some, putting-end}
@@ -61,8 +60,7 @@ take-drop : (ws : List ℕ) (i n : ℕ) → i ≤ length ws → take n (drop i w
 take-drop ws i n h = sym (ap (drop i) (take-add i n ws) ∙ drop-at (take i ws) (take n (drop i ws)) i (length-take-le i ws h))
 
 module _ (ws : List ℕ) (i extent picks : ℕ) (h : i ≤ extent) (inside : extent ≤ length ws) where
-  taken-row : take picks (part ws i extent) ≡ part ws i (min (i + picks) extent)
-  unfolding part
+  taken-row : take picks (slice i extent ws) ≡ slice i (min (i + picks) extent) ws
   taken-row = by (decLt extent (i + picks))
     where
       by : Dec (extent < i + picks) → take picks (drop i (take extent ws)) ≡ drop i (take (min (i + picks) extent) ws)
@@ -76,8 +74,7 @@ module _ (ws : List ℕ) (i extent picks : ℕ) (h : i ≤ extent) (inside : ext
           let t = length-take-le extent ws inside in
           rw z (take-drop (take extent ws) i picks (omega arith) ∙ ap (drop i) (take-take (i + picks) extent ws (omega arith)))
 
-  left-rows : drop picks (part ws i extent) ≡ part ws (min (i + picks) extent) extent
-  unfolding part
+  left-rows : drop picks (slice i extent ws) ≡ slice (min (i + picks) extent) extent ws
   left-rows = drop-drop picks i (take extent ws) ∙ by (decLt extent (i + picks))
     where
       by : Dec (extent < i + picks) → drop (i + picks) (take extent ws) ≡ drop (min (i + picks) extent) (take extent ws)
@@ -87,8 +84,8 @@ module _ (ws : List ℕ) (i extent picks : ℕ) (h : i ≤ extent) (inside : ext
           rw z (drop-of-length-le (take extent ws) {i = i + picks} (omega arith) ∙ sym (drop-of-length-le (take extent ws) {i = extent} (omega arith)))
       by (no k) = let z : min (i + picks) extent ≡ i + picks = omega arith in rw z
 
-  rows-more : 1 ≤ picks → i < extent → rowsOf picks (part ws i extent) ≡ part ws i (min (i + picks) extent) ∷ rowsOf picks (part ws (min (i + picks) extent) extent)
-  rows-more p k = let l = length-part ws i extent inside in rows-next picks (part ws i extent) p (omega arith) ∙ rw (taken-row, left-rows)
+  rows-more : 1 ≤ picks → i < extent → rowsOf picks (slice i extent ws) ≡ slice i (min (i + picks) extent) ws ∷ rowsOf picks (slice (min (i + picks) extent) extent ws)
+  rows-more p k = let l = length-slice i extent ws inside in rows-next picks (slice i extent ws) p (omega arith) ∙ rw (taken-row, left-rows)
 
 -- ---- their lines
 
@@ -103,19 +100,18 @@ lines-none e = rw e
 -- the rows from word i on are left
 pub record Rowing (before after : List ℕ) (at : ℕ) (ws : List ℕ) (extent picks i k : ℕ) : Type 0 where
   pub upTo : i ≤ extent
-  pub putting : Putting before after at (rowLines (rowsOf picks (take extent ws))) (rowLines (rowsOf picks (part ws i extent))) k
+  pub putting : Putting before after at (rowLines (rowsOf picks (take extent ws))) (rowLines (rowsOf picks (slice i extent ws))) k
 
 pub rowing-start : (out : List ℕ) (at : ℕ) (ws : List ℕ) (extent picks : ℕ) → Rowing out out at ws extent picks 0 at
-unfolding part
 rowing-start out at ws extent picks = record { upTo = omega arith; putting = putting-start out at (rowLines (rowsOf picks (take extent ws))) }
 
 module _ {before after : List ℕ} {at : ℕ} {ws : List ℕ} {extent picks i k : ℕ} (l : Rowing before after at ws extent picks i k) where
   pub rowing-more : 1 ≤ picks → extent ≤ length ws → i < extent → {e r : ℕ} {new : List ℕ} → e ≡ min (i + picks) extent
-      → Put after new k (line (map digits (part ws i e))) r → Rowing before new at ws extent picks e r
+      → Put after new k (line (map digits (slice i e ws))) r → Rowing before new at ws extent picks e r
   rowing-more p inside h {e} {r} {new} z q = record {
     upTo = omega arith;
     putting = rw z (putting-some (putting-same (lines-next (rows-more ws i extent picks (l .upTo) inside p h)) (l .putting)) (rw z at q));
   }
 
   pub rowing-end : extent ≤ i → Put before after at (rowLines (rowsOf picks (take extent ws))) k
-  rowing-end h = putting-end (putting-same (lines-none (ap (rowsOf picks) (part-nil ws i extent h) ∙ rows-none picks)) (l .putting))
+  rowing-end h = putting-end (putting-same (lines-none (ap (rowsOf picks) (slice-none ws i extent h) ∙ rows-none picks)) (l .putting))

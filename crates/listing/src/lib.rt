@@ -7,9 +7,10 @@ ghost use mathlib.Core.Path.{_≡_};
 ghost use Prim.Native.Nat.{_+_, _<_, _≤_, min};
 ghost use mathlib.Core.List.{[], _∷_, _++_, map};
 ghost use lib.ListN.{length, getD, take, replicate};
+ghost use lib.Seq.{slice};
 ghost use Rattle.drawing.specs.Builder.{view};
 ghost use Rattle.text.specs.Text.{digits};
-ghost use Rattle.text.specs.inner.Parts.{part, Inside, span, nameAt, namesOf, Spans};
+ghost use Rattle.text.specs.inner.Parts.{Inside, span, nameAt, namesOf, Spans};
 ghost use Rattle.listing.specs.Listing.{line, pickedNames, listing, refusal, listedIn};
 ghost use Rattle.listing.specs.inner.Written.{Put, gap, rowsOf, rowLines, listed, finished};
 
@@ -27,7 +28,7 @@ fn put_byte(out: &mut [u8], at: usize, b: u8) -> usize
 // The bytes a to e of another slice.
 fn put_text(out: &mut [u8], at: usize, s: &[u8], a: usize, e: usize) -> usize
     requires { ⌜ Inside (now s) a e ⌝ }
-    ensures { λ r. ⌜ Put (now (out .entry)) (now (out .exit)) at (part (now (s .entry)) a e) r ⌝ }
+    ensures { λ r. ⌜ Put (now (out .entry)) (now (out .exit)) at (slice a e (now (s .entry))) r ⌝ }
 {
     let mut k = at;
     let mut i = a;
@@ -101,7 +102,7 @@ fn put_field(out: &mut [u8], at: usize, n: u32, first: bool) -> usize
 // The line of one row, whose words are a to e.
 fn put_row(out: &mut [u8], at: usize, rows: &[u32], a: usize, e: usize) -> usize
     requires { ⌜ Inside (now rows) a e ⌝ }
-    ensures { λ r. ⌜ Put (now (out .entry)) (now (out .exit)) at (line (map digits (part (now (rows .entry)) a e))) r ⌝ }
+    ensures { λ r. ⌜ Put (now (out .entry)) (now (out .exit)) at (line (map digits (slice a e (now (rows .entry))))) r ⌝ }
 {
     let mut end = at;
     let mut i = a;

@@ -8,9 +8,9 @@ use Prim.Native.Nat.{ℕ, suc, _+_, _*_, _-_, _<_, _≤_}
 use native.Mathlib.Omega.{arith}
 use borrow.Author.Tests.{eq-eqb, ne-eqb}
 use lib.ListN.{length, getD, take, drop}
-use lib.Seq.{drop-cons}
 use Rattle.tables.specs.declared.Pair.{Pair}
 use Rattle.tables.specs.Lists.{keep, count, below}
+use Rattle.drawing.proofs.Words.{three-words}
 use Rattle.lines.specs.Reading.{Entry}
 use Rattle.lines.specs.inner.State.{entry, entriesOf, entries}
 use Rattle.reader.specs.Sheet.{linesOf}
@@ -20,16 +20,6 @@ use Rattle.reader.specs.inner.Answers.{grouped}
 
 pub entriesFrom : List ℕ → ℕ → ℕ → List Entry
 entriesFrom ws n i = entriesOf (take (3 * (n - i)) (drop (3 * i) ws))
-
-three-words : (ws : List ℕ) (j : ℕ) → j + 2 < length ws → drop j ws ≡ getD ws j 0 ∷ getD ws (j + 1) 0 ∷ getD ws (j + 2) 0 ∷ drop (j + 3) ws
-three-words ws j h =
-    let a : j < length ws = omega arith in
-    let b : suc j < length ws = omega arith in
-    let c : suc (suc j) < length ws = omega arith in
-    let d : j + 1 ≡ suc j = omega arith in
-    let e : j + 2 ≡ suc (suc j) = omega arith in
-    let f : j + 3 ≡ suc (suc (suc j)) = omega arith in
-    rw (d, e, f, drop-cons ws j 0 a, drop-cons ws (suc j) 0 b, drop-cons ws (suc (suc j)) 0 c)
 
 module _ (ws : List ℕ) (n : ℕ) (room : 3 * n ≤ length ws) where
   pub entries-all : entriesFrom ws n 0 ≡ entries ws n

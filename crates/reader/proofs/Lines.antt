@@ -9,12 +9,12 @@ use Prim.Native.Nat.{ℕ, _+_, _<_, _≤_}
 use native.Mathlib.Omega.{arith}
 use lib.Dec.{eqb}
 use lib.ListN.{length}
-use lib.Seq.{take-length}
+use lib.Seq.{slice, take-length}
+use Rattle.tables.proofs.Parts.{slice-none, slice-next}
 use Rattle.drawing.specs.Builder.{emptyDrawing}
 use Rattle.drawing.proofs.Builder.{view-empty, roomy-empty}
 use Rattle.text.specs.Text.{split}
-use Rattle.text.specs.inner.Parts.{part, Cut, noNames}
-use Rattle.text.proofs.Parts.{part-nil, part-cons}
+use Rattle.text.specs.inner.Parts.{Cut, noNames}
 use Rattle.text.proofs.Spans.{names-none, spans-none}
 use Rattle.lines.specs.declared.State.{State}
 use Rattle.lines.specs.declared.Step.{Step}
@@ -32,14 +32,10 @@ pub record Going (s ws₀ vs₀ ws vs : List ℕ) (at a : ℕ) (x : State) : Typ
   pub fine : Fine s a x
   pub classSize : length ws ≡ length ws₀
   pub labelSize : length vs ≡ length vs₀
-  pub rest : readLines at (viewOf s ws vs x) (split 10 (part s a (length s)) .first) (split 10 (part s a (length s)) .rest)
+  pub rest : readLines at (viewOf s ws vs x) (split 10 (slice a (length s) s) .first) (split 10 (slice a (length s) s) .rest)
       ≡ readLines 1 nothing (split 10 s .first) (split 10 s .rest)
 
 -- ---- before the first line
-
-whole : (s : List ℕ) → part s 0 (length s) ≡ s
-unfolding part
-whole s = take-length s
 
 shows-nothing : (s ws vs : List ℕ) → viewOf s ws vs noState ≡ nothing
 unfolding viewOf noState tablesRead entries entriesOf nothing
@@ -74,7 +70,7 @@ lines-start s ws vs = record {
   fine = fine-nothing s;
   classSize = refl;
   labelSize = refl;
-  rest = rw (shows-nothing s ws vs, whole s);
+  rest = rw (shows-nothing s ws vs, take-length s);
 }
 
 -- ---- a line
@@ -88,13 +84,13 @@ module _ {s ws₀ vs₀ ws vs : List ℕ} {at a : ℕ} {x : State} (g : Going s 
       LinesRead s ws vs (record { found = Breach at; state = x }) (readLines 1 nothing (split 10 s .first) (split 10 s .rest))
   unfolding outcomeOf readLines endsAt
   unended {e} h c l = record {
-    answer = rw (c .last l, part-cons s a (length s) h (omega arith)) at (g .rest);
+    answer = rw (c .last l, slice-next s a (length s) h (omega arith)) at (g .rest);
     fine = fine-later (g .fine) (omega (arith, g .upTo));
   }
 
   module _ {e : ℕ} (c : Cut s a (length s) 10 e) (l : e < length s) {ws′ vs′ : List ℕ} {r : Step}
-      (d : LineRead s ws ws′ vs vs′ e x r (λ v. readLine v (part s a e))) where
-    one-line : continue at (allow (r .read) (viewOf s ws′ vs′ (r .state))) (λ v. readLines (at + 1) v (split 10 (part s (e + 1) (length s)) .first) (split 10 (part s (e + 1) (length s)) .rest))
+      (d : LineRead s ws ws′ vs vs′ e x r (λ v. readLine v (slice a e s))) where
+    one-line : continue at (allow (r .read) (viewOf s ws′ vs′ (r .state))) (λ v. readLines (at + 1) v (split 10 (slice (e + 1) (length s) s) .first) (split 10 (slice (e + 1) (length s) s) .rest))
         ≡ readLines 1 nothing (split 10 s .first) (split 10 s .rest)
     unfolding readLines
     one-line = rw (d .answer) (rw (c .more l) at (g .rest))
@@ -119,7 +115,7 @@ module _ {s ws₀ vs₀ ws vs : List ℕ} {at a : ℕ} {x : State} (g : Going s 
 
   at-end : length s ≤ a → finish at (viewOf s ws vs x) ≡ readLines 1 nothing (split 10 s .first) (split 10 s .rest)
   unfolding readLines endsAt split
-  at-end h = rw (part-nil s a (length s) h) at (g .rest)
+  at-end h = rw (slice-none s a (length s) h) at (g .rest)
 
   pub all-read : length s ≤ a → (eqb (x .section) 3 && x .opened) ≡ true →
       LinesRead s ws vs (record { found = Whole; state = x }) (readLines 1 nothing (split 10 s .first) (split 10 s .rest))

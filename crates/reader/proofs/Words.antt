@@ -16,6 +16,7 @@ use Rattle.drawing.specs.declared.Edge.{Edge}
 use Rattle.drawing.specs.declared.Drawing.{Drawing}
 use Rattle.drawing.specs.Drawing.{nodeCount, nodesOf, edgesOf, patternOf}
 use Rattle.drawing.specs.Builder.{view}
+use Rattle.words.specs.inner.Words.{Wrote}
 use Rattle.text.proofs.Spans.{length-names}
 use Rattle.lines.specs.declared.State.{State}
 use Rattle.text.specs.Text.{split}
@@ -26,7 +27,7 @@ use Rattle.reader.specs.declared.Scan.{Scan}
 use Rattle.reader.specs.declared.SheetWords.{SheetWords}
 use Rattle.reader.specs.declared.Found.{Found}
 use Rattle.reader.specs.declared.Found.the-variants.{Whole, Breach}
-use Rattle.reader.specs.inner.Answers.{outcomeOf, LinesRead, Wrote, pairWords, nodeWords, edgeWords, grouped, Drawn, Countable, feedOf, drawingOf, Given, Answers, whole, broken}
+use Rattle.reader.specs.inner.Answers.{outcomeOf, LinesRead, pairWords, nodeWords, edgeWords, grouped, Drawn, Countable, feedOf, drawingOf, Given, Answers, whole, broken}
 use Rattle.reader.proofs.Writing.{wrote-fits}
 use Rattle.reader.proofs.Sizes.{length-count, length-words}
 

@@ -11,11 +11,12 @@ ghost use mathlib.Core.Path.{_≡_};
 ghost use mathlib.Core.List.{[], _∷_, map, flatMap};
 ghost use Prim.Native.Nat.{_+_, _*_, _≤_, _<_};
 ghost use lib.ListN.{length, take};
+ghost use Rattle.words.specs.inner.Words.{Wrote};
 ghost use Rattle.text.specs.Text.{split};
 ghost use Rattle.lines.specs.Reading.{nothing};
 ghost use Rattle.lines.specs.inner.State.{entries, mostBytes, lineWords};
 ghost use Rattle.reader.specs.Sheet.{readLines, linesOf};
-ghost use Rattle.reader.specs.inner.Answers.{noState, LinesRead, Wrote, pairWords, grouped, nodeWords, edgeWords, Drawn, Countable, feedRoom, drawingRoom, feedOf, drawingOf, Answers};
+ghost use Rattle.reader.specs.inner.Answers.{noState, LinesRead, pairWords, grouped, nodeWords, edgeWords, Drawn, Countable, feedRoom, drawingRoom, feedOf, drawingOf, Answers};
 
 // What the lines of a sheet are: all as they should be, or the first breach is at this line.
 pub enum Found {

@@ -2,7 +2,7 @@
 --
 -- In order: how many; the search for one; no names; one name more.
 -- Assumes nothing.
-use mathlib.Core.Path.{_≡_, refl, _∙_}
+use mathlib.Core.Path.{_≡_, refl, ap, _∙_}
 use mathlib.Core.Bool.{true, false}
 use mathlib.Core.List.{List, [], _∷_, _++_, map, map-append}
 use Prim.Native.Nat.{ℕ, _+_, _<_, _≤_}
@@ -37,15 +37,12 @@ pub find-starts : (s name : List ℕ) (x : Names) → Finding s name x 0
 unfolding namesFrom namesOf
 find-starts s name x = record { upTo = omega arith; left = omega arith }
 
-map-cons : {A B : Type 0} (f : A → B) {x : A} {xs ys : List A} → ys ≡ x ∷ xs → map f ys ≡ f x ∷ map f xs
-map-cons f e = rw e
-
 module _ {s name : List ℕ} {x : Names} {i : ℕ} (c : Finding s name x i) (g : Spans s x 64) where
   names-more : i < x .n → namesFrom s x i ≡ nameAt s (getD (x .spans) i (span 0 0)) ∷ namesFrom s x (i + 1)
   unfolding namesFrom
   names-more h =
       let l : x .n ≤ length (x .spans) = omega (arith, g .size, g .few) in
-      rw add-one (map-cons (nameAt s) (slice-cons i (x .n) (x .spans) (span 0 0) h l))
+      rw add-one (ap (map (nameAt s)) (slice-cons i (x .n) (x .spans) (span 0 0) h l))
 
   pub find-stops : i < x .n → same name (nameAt s (getD (x .spans) i (span 0 0))) ≡ true → i ≡ find name (namesOf s x)
   unfolding find

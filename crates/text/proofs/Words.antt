@@ -11,11 +11,12 @@ use native.Mathlib.Nat.{pow-suc, pow-le-pow-right}
 use borrow.Author.Tests.{le-leb, lt-leb, ne-eqb}
 use lib.Dec.{eqb, leb, eqb·suc-zero, eqb·suc-suc}
 use lib.ListN.{length, getD}
+use lib.Seq.{slice, length-slice}
 use Rattle.tables.specs.Lists.{all}
 use Rattle.tables.proofs.Tests.{both-true, leb-is}
+use Rattle.tables.proofs.Parts.{slice-none, slice-next}
 use Rattle.text.specs.Text.{within, isName, noLeadingZero, isNumber, valueFrom, valueOf}
-use Rattle.text.specs.inner.Parts.{part, Inside}
-use Rattle.text.proofs.Parts.{part-nil, part-cons, length-part}
+use Rattle.text.specs.inner.Parts.{Inside}
 
 and-false : (b : Bool) → b && false ≡ false
 and-false true = refl
@@ -47,35 +48,35 @@ module _ (low high b : ℕ) where
 pub record Ranging (s : List ℕ) (a e low high i : ℕ) : Type 0 where
   pub from : a ≤ i
   pub upTo : i ≤ e
-  pub left : all (within low high) (part s i e) ≡ all (within low high) (part s a e)
+  pub left : all (within low high) (slice i e s) ≡ all (within low high) (slice a e s)
 
 module _ {s : List ℕ} {a e low high i : ℕ} (c : Ranging s a e low high i) (k : e ≤ length s) where
-  pub range-stops : i < e → within low high (getD s i 0) ≡ false → false ≡ all (within low high) (part s a e)
+  pub range-stops : i < e → within low high (getD s i 0) ≡ false → false ≡ all (within low high) (slice a e s)
   unfolding all
-  range-stops h w = rw (part-cons s i e h k, w) at (c .left)
+  range-stops h w = rw (slice-next s i e h k, w) at (c .left)
 
   pub range-goes-on : i < e → within low high (getD s i 0) ≡ true → Ranging s a e low high (i + 1)
   unfolding all
-  range-goes-on h w = record { from = omega (arith, c .from); upTo = omega arith; left = rw (part-cons s i e h k, w) at (c .left) }
+  range-goes-on h w = record { from = omega (arith, c .from); upTo = omega arith; left = rw (slice-next s i e h k, w) at (c .left) }
 
-  pub range-ends : e ≤ i → true ≡ all (within low high) (part s a e)
+  pub range-ends : e ≤ i → true ≡ all (within low high) (slice a e s)
   unfolding all
-  range-ends h = rw (part-nil s i e h) at (c .left)
+  range-ends h = rw (slice-none s i e h) at (c .left)
 
 -- ---- a name
 
 module _ (s : List ℕ) (a e : ℕ) (k : e ≤ length s) where
-  pub no-name : e - a ≡ 0 → false ≡ isName (part s a e)
+  pub no-name : e - a ≡ 0 → false ≡ isName (slice a e s)
   unfolding isName
-  no-name h = rw (length-part s a e k, h, too-low 1 12 0 (omega arith))
+  no-name h = rw (length-slice a e s k, h, too-low 1 12 0 (omega arith))
 
-  pub long-name : 12 < e - a → false ≡ isName (part s a e)
+  pub long-name : 12 < e - a → false ≡ isName (slice a e s)
   unfolding isName
-  long-name h = rw (length-part s a e k, too-high 1 12 (e - a) h)
+  long-name h = rw (length-slice a e s k, too-high 1 12 (e - a) h)
 
-  pub name-by-letters : 1 ≤ e - a → e - a ≤ 12 → all (within 97 122) (part s a e) ≡ isName (part s a e)
+  pub name-by-letters : 1 ≤ e - a → e - a ≤ 12 → all (within 97 122) (slice a e s) ≡ isName (slice a e s)
   unfolding isName
-  name-by-letters h l = rw (length-part s a e k, is-within 1 12 (e - a) h l)
+  name-by-letters h l = rw (length-slice a e s k, is-within 1 12 (e - a) h l)
 
 pub name-length : (xs : List ℕ) → isName xs ≡ true → 1 ≤ length xs
 unfolding isName
@@ -106,25 +107,25 @@ no-leading-zero b [] d = refl
 no-leading-zero b (c ∷ bs) d = rw (ne-eqb b 48 d)
 
 module _ (s : List ℕ) (a e : ℕ) (k : e ≤ length s) where
-  pub no-number : e - a ≡ 0 → false ≡ isNumber (part s a e)
+  pub no-number : e - a ≡ 0 → false ≡ isNumber (slice a e s)
   unfolding isNumber
-  no-number h = rw (length-part s a e k, h, too-low 1 5 0 (omega arith))
+  no-number h = rw (length-slice a e s k, h, too-low 1 5 0 (omega arith))
 
-  pub long-number : 5 < e - a → false ≡ isNumber (part s a e)
+  pub long-number : 5 < e - a → false ≡ isNumber (slice a e s)
   unfolding isNumber
-  long-number h = rw (length-part s a e k, too-high 1 5 (e - a) h)
+  long-number h = rw (length-slice a e s k, too-high 1 5 (e - a) h)
 
-  pub zero-number : a < e → getD s a 0 ≡ 48 → eqb (e - a) 1 ≡ isNumber (part s a e)
+  pub zero-number : a < e → getD s a 0 ≡ 48 → eqb (e - a) 1 ≡ isNumber (slice a e s)
   zero-number h z =
       let l : e - a ≡ suc (e - (a + 1)) = omega arith in
-      rw (part-cons s a e h k, z, leading-zero (part s (a + 1) e), length-part s (a + 1) e k, l) (eqb·suc-suc (e - (a + 1)) 0)
+      rw (slice-next s a e h k, z, leading-zero (slice (a + 1) e s), length-slice (a + 1) e s k, l) (eqb·suc-suc (e - (a + 1)) 0)
 
-  pub number-by-digits : a < e → e - a ≤ 5 → (getD s a 0 ≡ 48 → ⊥) → all (within 48 57) (part s a e) ≡ isNumber (part s a e)
+  pub number-by-digits : a < e → e - a ≤ 5 → (getD s a 0 ≡ 48 → ⊥) → all (within 48 57) (slice a e s) ≡ isNumber (slice a e s)
   unfolding isNumber
   number-by-digits h l d =
-      let z : noLeadingZero (part s a e) ≡ true = rw (part-cons s a e h k) (no-leading-zero (getD s a 0) _ d) in
+      let z : noLeadingZero (slice a e s) ≡ true = rw (slice-next s a e h k) (no-leading-zero (getD s a 0) _ d) in
       let m : 1 ≤ e - a = omega arith in
-      rw (z, length-part s a e k, is-within 1 5 (e - a) m l) (sym (and-true _))
+      rw (z, length-slice a e s k, is-within 1 5 (e - a) m l) (sym (and-true _))
 
 -- ---- its value
 
@@ -134,15 +135,15 @@ pub record Valuing (s : List ℕ) (a e n i : ℕ) : Type 0 where
   pub upTo : i ≤ e
   pub few : e - a ≤ 5
   pub small : n < 10 ^ (i - a)
-  pub digits : all (within 48 57) (part s i e) ≡ true
-  pub left : valueFrom n (part s i e) ≡ valueOf (part s a e)
+  pub digits : all (within 48 57) (slice i e s) ≡ true
+  pub left : valueFrom n (slice i e s) ≡ valueOf (slice a e s)
 
-pub value-starts : (s : List ℕ) (a e : ℕ) → Inside s a e → isNumber (part s a e) ≡ true → Valuing s a e 0 a
+pub value-starts : (s : List ℕ) (a e : ℕ) → Inside s a e → isNumber (slice a e s) ≡ true → Valuing s a e 0 a
 unfolding valueOf
 value-starts s a e g t =
-    let n = number (part s a e) t in
+    let n = number (slice a e s) t in
     let z : a - a ≡ 0 = omega arith in
-    record { from = omega arith; upTo = g .ordered; few = omega (arith, n .few, length-part s a e (g .ends)); small = rw z (omega arith); digits = n .digits; left = refl }
+    record { from = omega arith; upTo = g .ordered; few = omega (arith, n .few, length-slice a e s (g .ends)); small = rw z (omega arith); digits = n .digits; left = refl }
 
 module _ {s : List ℕ} {a e n i : ℕ} (c : Valuing s a e n i) (k : e ≤ length s) where
   pub value-small : n < 100000
@@ -150,13 +151,13 @@ module _ {s : List ℕ} {a e n i : ℕ} (c : Valuing s a e n i) (k : e ≤ lengt
       let m : 10 ^ (i - a) ≤ 10 ^ 5 = pow-le-pow-right {n = 10} (omega arith) {i = i - a} {j = 5} (omega (arith, c .few, c .upTo)) in
       omega (arith, c .small)
 
-  pub value-ends : e ≤ i → n ≡ valueOf (part s a e)
+  pub value-ends : e ≤ i → n ≡ valueOf (slice a e s)
   unfolding valueFrom
-  value-ends h = rw (part-nil s i e h) at (c .left)
+  value-ends h = rw (slice-none s i e h) at (c .left)
 
-  digits-more : i < e → (within 48 57 (getD s i 0) ≡ true) × (all (within 48 57) (part s (i + 1) e) ≡ true)
+  digits-more : i < e → (within 48 57 (getD s i 0) ≡ true) × (all (within 48 57) (slice (i + 1) e s) ≡ true)
   unfolding all
-  digits-more h = both-true (within 48 57 (getD s i 0)) (all (within 48 57) (part s (i + 1) e)) .0 (rw (part-cons s i e h k) at (c .digits))
+  digits-more h = both-true (within 48 57 (getD s i 0)) (all (within 48 57) (slice (i + 1) e s)) .0 (rw (slice-next s i e h k) at (c .digits))
 
   pub digit : i < e → (48 ≤ getD s i 0) × (getD s i 0 ≤ 57)
   digit h = within-is 48 57 (getD s i 0) (digits-more h .0)
@@ -174,5 +175,5 @@ module _ {s : List ℕ} {a e n i : ℕ} (c : Valuing s a e n i) (k : e ≤ lengt
         few = c .few;
         small = rw (z, p) w;
         digits = digits-more h .1;
-        left = rw (part-cons s i e h k) at (c .left);
+        left = rw (slice-next s i e h k) at (c .left);
       }

@@ -4,9 +4,10 @@
 ghost use mathlib.Core.Path.{_≡_};
 ghost use mathlib.Core.Bool.{true};
 ghost use Prim.Native.Nat.{_<_};
+ghost use lib.Seq.{slice};
 ghost use Rattle.tables.specs.Lists.{all};
 ghost use Rattle.text.specs.Text.{within, isName, isNumber, valueOf, same, find};
-ghost use Rattle.text.specs.inner.Parts.{part, Inside, Cut, Fielded, span, namesOf, noNames, withName, Spans};
+ghost use Rattle.text.specs.inner.Parts.{Inside, Cut, Fielded, span, namesOf, noNames, withName, Spans};
 
 // A part of a slice.
 pub struct Span {
@@ -81,7 +82,7 @@ pub fn fields_of(s: &[u8], a: usize, e: usize) -> Fields
 // Whether every byte of a part is one of these.
 fn all_within(s: &[u8], a: usize, e: usize, low: u8, high: u8) -> bool
     requires { ⌜ Inside (now s) a e ⌝ }
-    ensures { λ r. ⌜ r ≡ all (within low high) (part (now (s .entry)) a e) ⌝ }
+    ensures { λ r. ⌜ r ≡ all (within low high) (slice a e (now (s .entry))) ⌝ }
 {
     let mut i = a;
     while i < e {
@@ -99,7 +100,7 @@ fn all_within(s: &[u8], a: usize, e: usize, low: u8, high: u8) -> bool
 // Whether a part is a name: 1 to 12 lower-case letters.
 pub fn is_name(s: &[u8], a: usize, e: usize) -> bool
     requires { ⌜ Inside (now s) a e ⌝ }
-    ensures { λ r. ⌜ r ≡ isName (part (now (s .entry)) a e) ⌝ }
+    ensures { λ r. ⌜ r ≡ isName (slice a e (now (s .entry))) ⌝ }
 {
     if a == e {
         return false;
@@ -113,7 +114,7 @@ pub fn is_name(s: &[u8], a: usize, e: usize) -> bool
 // Whether a part is a number: 1 to 5 digits without a leading zero.
 pub fn is_number(s: &[u8], a: usize, e: usize) -> bool
     requires { ⌜ Inside (now s) a e ⌝ }
-    ensures { λ r. ⌜ r ≡ isNumber (part (now (s .entry)) a e) ⌝ }
+    ensures { λ r. ⌜ r ≡ isNumber (slice a e (now (s .entry))) ⌝ }
 {
     if a == e {
         return false;
@@ -129,8 +130,8 @@ pub fn is_number(s: &[u8], a: usize, e: usize) -> bool
 
 // The value of a number.
 pub fn value_of(s: &[u8], a: usize, e: usize) -> u32
-    requires { ⌜ Inside (now s) a e ⌝ ∗ ⌜ isNumber (part (now s) a e) ≡ true ⌝ }
-    ensures { λ r. ⌜ r ≡ valueOf (part (now (s .entry)) a e) ⌝ }
+    requires { ⌜ Inside (now s) a e ⌝ ∗ ⌜ isNumber (slice a e (now s)) ≡ true ⌝ }
+    ensures { λ r. ⌜ r ≡ valueOf (slice a e (now (s .entry))) ⌝ }
 {
     let mut n: u32 = 0;
     let mut i = a;
@@ -144,7 +145,7 @@ pub fn value_of(s: &[u8], a: usize, e: usize) -> u32
 // Whether two parts are the same text.
 pub fn same_text(s: &[u8], a: usize, e: usize, t: &[u8], b: usize, f: usize) -> bool
     requires { ⌜ Inside (now s) a e ⌝ ∗ ⌜ Inside (now t) b f ⌝ }
-    ensures { λ r. ⌜ r ≡ same (part (now (s .entry)) a e) (part (now (t .entry)) b f) ⌝ }
+    ensures { λ r. ⌜ r ≡ same (slice a e (now (s .entry))) (slice b f (now (t .entry))) ⌝ }
 {
     if e - a != f - b {
         return false;
@@ -164,7 +165,7 @@ pub fn same_text(s: &[u8], a: usize, e: usize, t: &[u8], b: usize, f: usize) -> 
 // The number of a name; as many as there are where it is none of them.
 pub fn find_name(s: &[u8], a: usize, e: usize, names: Names) -> usize
     requires { ⌜ Inside (now s) a e ⌝ ∗ ⌜ Spans (now s) names 64 ⌝ }
-    ensures { λ r. ⌜ r ≡ find (part (now (s .entry)) a e) (namesOf (now (s .entry)) names) ⌝ }
+    ensures { λ r. ⌜ r ≡ find (slice a e (now (s .entry))) (namesOf (now (s .entry)) names) ⌝ }
 {
     let n = names.n;
     let mut i = 0;

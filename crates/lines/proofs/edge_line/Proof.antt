@@ -2,7 +2,7 @@
 use mathlib.Core.Path.{_∙_, sym}
 use mathlib.Core.Bool.{false}
 use Prim.Native.Nat.{_+_}
-use Rattle.text.specs.inner.Parts.{part}
+use lib.Seq.{slice}
 use Rattle.text.proofs.Parts.{wrong-count}
 use Rattle.text.proofs.Spans.{spans-wider}
 use Rattle.lines.specs.Reading.{allow}
@@ -44,7 +44,7 @@ cast-label : tie.Need-cast-label
 cast-label c =
     let at-fields-of = c .before .before .before .before .before in
     let s = at-fields-of .before .before .before .before in
-    let name = part (s .args .s .now) (s .args .a) (at-fields-of .fields-of .result .first) in
+    let name = slice (s .args .a) (at-fields-of .fields-of .result .first) (s .args .s .now) in
     let f = find-small (s .pre .fine .labels) (omega arith) name in
     omega (arith, c .find-name .ensures)
 
@@ -66,7 +66,7 @@ cast-source : tie.Need-cast-source
 cast-source c =
     let at-fields-of = c .before .before .before .before .before .before in
     let s = at-fields-of .before .before .before .before in
-    let name = part (s .args .s .now) (at-fields-of .fields-of .result .first + 1) (at-fields-of .fields-of .result .second) in
+    let name = slice (at-fields-of .fields-of .result .first + 1) (at-fields-of .fields-of .result .second) (s .args .s .now) in
     let f = find-small (s .pre .fine .nodes) (omega arith) name in
     omega (arith, c .find-name2 .ensures)
 
@@ -88,7 +88,7 @@ cast-target : tie.Need-cast-target
 cast-target c =
     let at-fields-of = c .before .before .before .before .before .before .before in
     let s = at-fields-of .before .before .before .before in
-    let name = part (s .args .s .now) (at-fields-of .fields-of .result .second + 1) (s .args .e) in
+    let name = slice (at-fields-of .fields-of .result .second + 1) (s .args .e) (s .args .s .now) in
     let f = find-small (s .pre .fine .nodes) (omega arith) name in
     omega (arith, c .find-name3 .ensures)
 

@@ -1,7 +1,6 @@
 -- `lines::is_header` meets its contract: the four name lines, byte by byte. Assumes nothing.
 use mathlib.Core.Path.{_≡_}
 use Rattle.text.specs.Text.{bytes}
-use Rattle.text.specs.inner.Parts.{part}
 use Rattle.lines.specs.Reading.{headers}
 use borrow.Author.Needs.{needs}
 use native.Mathlib.Omega.{arith}
@@ -17,7 +16,7 @@ same-text-requires c κs =
     (s .pre .0, record { ordered = omega arith; ends = omega arith })
 
 returns : tie.Need-returns
-unfolding headers bytes part
+unfolding headers bytes
 returns c = rw (c .before .before .if1 .taken) (c .same-text .ensures)
 
 slice-aggregate-same-text-2 : tie.Need-slice-aggregate-same-text-2
@@ -29,7 +28,7 @@ same-text-requires-2 c κs =
     (s .pre .0, record { ordered = omega arith; ends = omega arith })
 
 returns-2 : tie.Need-returns-2
-unfolding headers bytes part
+unfolding headers bytes
 returns-2 c = rw (c .before .before .if2 .taken) (c .same-text2 .ensures)
 
 slice-aggregate-same-text-3 : tie.Need-slice-aggregate-same-text-3
@@ -41,7 +40,7 @@ same-text-requires-3 c κs =
     (s .pre .0, record { ordered = omega arith; ends = omega arith })
 
 returns-3 : tie.Need-returns-3
-unfolding headers bytes part
+unfolding headers bytes
 returns-3 c = rw (c .before .before .if3 .taken) (c .same-text3 .ensures)
 
 slice-aggregate-same-text-4 : tie.Need-slice-aggregate-same-text-4
@@ -53,7 +52,7 @@ same-text-requires-4 c κs =
     (s .pre .0, record { ordered = omega arith; ends = omega arith })
 
 returns-4 : tie.Need-returns-4
-unfolding headers bytes part
+unfolding headers bytes
 returns-4 c =
     let s = c .before .before .before .before .before .before in
     let z : s .args .section ≡ 3 = omega arith in rw z (c .same-text4 .ensures)

@@ -2,7 +2,8 @@
 use mathlib.Core.Path.{_∙_, sym}
 use mathlib.Core.Bool.{false}
 use Prim.Native.Nat.{_+_}
-use Rattle.text.specs.inner.Parts.{part, namesOf}
+use lib.Seq.{slice}
+use Rattle.text.specs.inner.Parts.{namesOf}
 use Rattle.text.proofs.Parts.{wrong-count}
 use Rattle.text.proofs.Spans.{spans-wider}
 use Rattle.lines.specs.Reading.{allow}
@@ -49,7 +50,7 @@ cast-class : tie.Need-cast-class
 cast-class c =
     let at-fields-of = c .before .before .before .before .before in
     let s = at-fields-of .before .before .before in
-    let name = part (s .args .s .now) (at-fields-of .fields-of .result .first + 1) (at-fields-of .fields-of .result .second) in
+    let name = slice (at-fields-of .fields-of .result .first + 1) (at-fields-of .fields-of .result .second) (s .args .s .now) in
     let f = find-small (s .pre .fine .classes) (omega arith) name in
     omega (arith, c .find-name .ensures)
 

@@ -1,5 +1,5 @@
 -- `lines::with_line` meets its contract: the name is numbered, and the line is written behind the others. Assumes nothing.
-use Rattle.text.specs.inner.Parts.{part}
+use lib.Seq.{slice}
 use Rattle.text.proofs.Spans.{spans-wider}
 use Rattle.lines.proofs.Naming.{find-small}
 use Rattle.lines.proofs.Entries.{lined}
@@ -22,7 +22,7 @@ numbered-requires c κs =
 cast-put-line : tie.Need-cast-put-line
 cast-put-line c =
     let s = c .before .before .before .before .before .before in
-    let f = find-small (s .pre .1 .0 .0) (s .pre .1 .0 .1) (part (s .args .s .now) (s .args .a) (s .args .e)) in omega (arith, c .before .before .find-name .ensures)
+    let f = find-small (s .pre .1 .0 .0) (s .pre .1 .0 .1) (slice (s .args .a) (s .args .e) (s .args .s .now)) in omega (arith, c .before .before .find-name .ensures)
 
 put-line-requires : tie.Need-put-line-requires
 put-line-requires c κs =

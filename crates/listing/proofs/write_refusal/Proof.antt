@@ -2,7 +2,6 @@
 use borrow.Author.Needs.{needs}
 use mathlib.Core.Path.{refl, _∙_}
 use Rattle.text.specs.Text.{bytes}
-use Rattle.text.specs.inner.Parts.{part}
 use Rattle.listing.proofs.Putting.{put-same, put-then}
 use Rattle.listing.proofs.Lines.{refusal-text}
 use Rattle.listing.proofs.Ending.{finished-listed}
@@ -28,7 +27,7 @@ same-length : tie.Need-same-length
 same-length c = search needs
 
 returns : tie.Need-returns
-unfolding part bytes
+unfolding bytes
 returns c =
     c .before .before .finish .ensures ∙
     finished-listed

@@ -1,5 +1,5 @@
 -- `reader::put` meets its contract. Assumes nothing.
-use Rattle.reader.proofs.Writing.{wrote-one}
+use Rattle.words.proofs.Writing.{wrote-one}
 use borrow.Author.Needs.{needs}
 use Rattle.reader.proofs.put.Statement.{statement}
 use Rattle.reader.proofs.put.Tie as tie

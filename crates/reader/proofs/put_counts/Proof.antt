@@ -1,11 +1,12 @@
 -- `reader::put_counts` meets its contract. The loop's invariant: the counts left, behind what is written, are all. Assumes nothing.
-use mathlib.Core.Path.{ap}
+use mathlib.Core.Path.{ap, sym}
 use mathlib.Core.List.{[], _∷_, map}
 use Prim.Native.Nat.{_-_, _+_, _≤_}
 use lib.ListN.{length}
 use Rattle.lines.specs.inner.State.{entries}
 use Rattle.reader.specs.inner.Answers.{grouped}
-use Rattle.reader.proofs.Writing.{Writing, write-starts, write-more, write-room, write-ends}
+use Rattle.words.proofs.Writing.{Writing, writing-start, writing-same, writing-end}
+use Rattle.reader.proofs.Writing.{writing-some, writing-room}
 use Rattle.reader.proofs.Grouping.{tablesFrom, tables-all, tables-more, tables-done}
 use Rattle.reader.proofs.Words.{length-grouped}
 use native.Mathlib.Omega.{arith}
@@ -13,13 +14,13 @@ use Rattle.reader.proofs.put_counts.Statement.{statement}
 use Rattle.reader.proofs.put_counts.Tie as tie
 
 abbrev Inv-loop : tie.InvT-loop
-Inv-loop words₀ at rows lines tables out₀ k₀ words out k = (Writing words₀ words at out (map length (tablesFrom (entries rows lines) tables k)) (map length (grouped (entries rows lines) tables))) × (k ≤ tables)
+Inv-loop words₀ at rows lines tables out₀ k₀ words out k = (Writing words₀ words at out (length words₀) (map length (grouped (entries rows lines) tables)) (map length (tablesFrom (entries rows lines) tables k))) × (k ≤ tables)
 
 abbrev μ-loop : tie.MeasureT-loop
 μ-loop words₀ at rows lines tables out₀ k₀ words out k = tables - k
 
 loop-holds : tie.Need-loop-holds Inv-loop μ-loop
-loop-holds c = (write-starts _ _ (ap (map length) (tables-all _ _)), omega arith)
+loop-holds c = (writing-same (sym (ap (map length) (tables-all _ _))) (writing-start _ _ _ _), omega arith)
 
 cast-count-lines : tie.Need-cast-count-lines Inv-loop μ-loop
 cast-count-lines c =
@@ -40,7 +41,7 @@ put-requires c κs =
     let es = entries (s .args .rows .now) (s .args .lines) in
     let g = length-grouped es (s .args .tables) in
     let rest = map length (tablesFrom es (s .args .tables) (at-loop .loop .k + 1)) in
-    let r = write-room (at-count-lines .count-lines .result ∷ []) rest (at-loop .loop .inv .0) (rw (tables-more es _ _ (at-loop-test .loop-test .taken), at-count-lines .count-lines .ensures)) (omega (arith, s .pre .1 .1 .1)) in
+    let r = writing-room (at-loop .loop .inv .0) (at-count-lines .count-lines .result ∷ []) rest (rw (tables-more es _ _ (at-loop-test .loop-test .taken), at-count-lines .count-lines .ensures)) (omega (arith, s .pre .1 .1 .1)) in
     omega arith
 
 add-k : tie.Need-add-k Inv-loop μ-loop
@@ -58,13 +59,13 @@ loop-again c =
     let s = at-loop .before .before .before in
     let es = entries (s .args .rows .now) (s .args .lines) in
     let more = tables-more es _ _ (at-loop-test .loop-test .taken) in
-    (write-more (at-loop .loop .inv .0) (rw (more, at-count-lines .count-lines .ensures)) (at-put .put .ensures), omega arith)
+    (writing-some (at-loop .loop .inv .0) (rw (more, at-count-lines .count-lines .ensures)) (at-put .put .ensures) (at-put .put .kept .0), omega arith)
 
 same-length : tie.Need-same-length Inv-loop μ-loop
 same-length c = c .before .loop .inv .0 .size
 
 returns : tie.Need-returns Inv-loop μ-loop
-returns c = write-ends (c .before .loop .inv .0) (ap (map length) (tables-done _ _ _ (c .loop-test .left)))
+returns c = writing-end (writing-same (ap (map length) (tables-done _ _ _ (c .loop-test .left))) (c .before .loop .inv .0))
 
 pub put-counts-spec : {M : Type 1} → statement M
 put-counts-spec =

@@ -31,8 +31,8 @@ put-nodes-requires : tie.Need-put-nodes-requires
 put-nodes-requires c κs =
     let at-put-two = c .before .before .before in
     let s = at-put-two .before .before .before .before .before in
-    let w = at-put-two .put-two .ensures in
-    (s .pre .0, omega (arith, s .pre .0 .fewNodes, w .ends, w .size, s .pre .1))
+    let w = at-put-two .put-two in
+    (s .pre .0, omega (arith, s .pre .0 .fewNodes, w .ensures .count, w .kept .0, s .pre .1))
 
 put-edges-requires : tie.Need-put-edges-requires
 put-edges-requires c κs =
@@ -42,9 +42,9 @@ put-edges-requires c κs =
     let d = s .args .d in
     let m = length-words nodeWords 2 (λ x. refl) (take (d .n) (d .nodes)) in
     let l = length-take-le (d .n) (d .nodes) (omega (arith, s .pre .0 .nodes, s .pre .0 .fewNodes)) in
-    let w = at-put-two .put-two .ensures in
-    let v = at-put-nodes .put-nodes .ensures in
-    (s .pre .0, omega (arith, s .pre .0 .fewNodes, s .pre .0 .fewEdges, w .ends, w .size, v .ends, v .size, s .pre .1))
+    let w = at-put-two .put-two in
+    let v = at-put-nodes .put-nodes in
+    (s .pre .0, omega (arith, s .pre .0 .fewNodes, s .pre .0 .fewEdges, w .ensures .count, w .kept .0, v .ensures .count, v .kept .0, s .pre .1))
 
 same-length : tie.Need-same-length
 same-length c = search needs

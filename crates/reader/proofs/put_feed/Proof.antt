@@ -30,9 +30,9 @@ put-counts-requires c κs =
     let at-put-two = c .before .before .before in
     let s = at-put-two .before .before .before .before .before .before .before in
     let k = s .pre .0 in
-    let w = at-put-two .put-two .ensures in
+    let w = at-put-two .put-two in
     let room = s .pre .1 .1 .1 in
-    (omega (arith, k .lines, s .pre .1 .0), (omega (arith, k .lines), (omega (arith, k .classes), omega (arith, k .classes, w .ends, w .size))))
+    (omega (arith, k .lines, s .pre .1 .0), (omega (arith, k .lines), (omega (arith, k .classes), omega (arith, k .classes, w .ensures .count, w .kept .0))))
 
 put-counts-requires-2 : tie.Need-put-counts-requires-2
 put-counts-requires-2 c κs =
@@ -44,9 +44,9 @@ put-counts-requires-2 c κs =
     let m = s .args .x .classes .names .n in
     let cs = entries (s .args .classes .now) (s .args .x .classes .lines) in
     let counts = length-grouped cs m in
-    let w = at-put-two .put-two .ensures in
-    let v = at-put-counts .put-counts .ensures in
-    (omega (arith, k .lines, s .pre .1 .1 .0), (omega (arith, k .lines), (k .labels, omega (arith, k .classes, k .labels, w .ends, w .size, v .ends, v .size))))
+    let w = at-put-two .put-two in
+    let v = at-put-counts .put-counts in
+    (omega (arith, k .lines, s .pre .1 .1 .0), (omega (arith, k .lines), (k .labels, omega (arith, k .classes, k .labels, w .ensures .count, w .kept .0, v .ensures .count, v .kept .0))))
 
 put-tables-requires : tie.Need-put-tables-requires
 put-tables-requires c κs =
@@ -61,16 +61,16 @@ put-tables-requires c κs =
     let n = s .args .x .labels .names .n in
     let ls = entries (s .args .labels .now) (s .args .x .labels .lines) in
     let counts = length-grouped cs m in
-    let w = at-put-two .put-two .ensures in
-    let v = at-put-counts .put-counts .ensures in
-    let u = at-put-counts2 .put-counts2 .ensures in
+    let w = at-put-two .put-two in
+    let v = at-put-counts .put-counts in
+    let u = at-put-counts2 .put-counts2 in
     let more = length-grouped ls n in
     let lines : length cs ≡ s .args .x .classes .lines = length-entries _ _ (omega (arith, k .lines, s .pre .1 .0)) in
     let pairs = tables-bound cs m in (
       omega (arith, k .lines, s .pre .1 .0),
       (
         omega (arith, k .classes),
-        omega (arith, k .classes, k .labels, k .lines, w .ends, w .size, v .ends, v .size, u .ends, u .size),
+        omega (arith, k .classes, k .labels, k .lines, w .ensures .count, w .kept .0, v .ensures .count, v .kept .0, u .ensures .count, u .kept .0),
       ),
     )
 
@@ -88,19 +88,19 @@ put-tables-requires-2 c κs =
     let n = s .args .x .labels .names .n in
     let ls = entries (s .args .labels .now) (s .args .x .labels .lines) in
     let counts = length-grouped cs m in
-    let w = at-put-two .put-two .ensures in
-    let v = at-put-counts .put-counts .ensures in
-    let u = at-put-counts2 .put-counts2 .ensures in
+    let w = at-put-two .put-two in
+    let v = at-put-counts .put-counts in
+    let u = at-put-counts2 .put-counts2 in
     let more = length-grouped ls n in
     let lines : length cs ≡ s .args .x .classes .lines = length-entries _ _ (omega (arith, k .lines, s .pre .1 .0)) in
     let pairs = tables-bound cs m in
-    let t = at-put-tables .put-tables .ensures in
+    let t = at-put-tables .put-tables in
     let others : length ls ≡ s .args .x .labels .lines = length-entries _ _ (omega (arith, k .lines, s .pre .1 .1 .0)) in
     let rest = tables-bound ls n in (
       omega (arith, k .lines, s .pre .1 .1 .0),
       (
         k .labels,
-        omega (arith, k .classes, k .labels, k .lines, w .ends, w .size, v .ends, v .size, u .ends, u .size, t .ends, t .size),
+        omega (arith, k .classes, k .labels, k .lines, w .ensures .count, w .kept .0, v .ensures .count, v .kept .0, u .ensures .count, u .kept .0, t .ensures .count, t .kept .0),
       ),
     )
 

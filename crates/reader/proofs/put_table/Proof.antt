@@ -1,19 +1,20 @@
 -- `reader::put_table` meets its contract. The loop's invariant: the pairs left, behind what is written, are all. Assumes nothing.
-use mathlib.Core.Path.{ap}
+use mathlib.Core.Path.{ap, sym}
 use mathlib.Core.List.{[], _∷_, flatMap}
 use Prim.Native.Nat.{_-_, _+_, _*_, _≤_}
-use lib.ListN.{getD}
+use lib.ListN.{length, getD}
 use Rattle.reader.specs.Sheet.{linesOf}
 use Rattle.lines.specs.inner.State.{entries}
 use Rattle.reader.specs.inner.Answers.{pairWords}
-use Rattle.reader.proofs.Writing.{Writing, write-starts, write-more, write-skips, write-room, write-ends}
+use Rattle.words.proofs.Writing.{Writing, writing-start, writing-same, writing-end}
+use Rattle.reader.proofs.Writing.{writing-some, writing-room}
 use Rattle.reader.proofs.Grouping.{linesFrom, lines-all, lines-in, lines-out, lines-done}
 use native.Mathlib.Omega.{arith}
 use Rattle.reader.proofs.put_table.Statement.{statement}
 use Rattle.reader.proofs.put_table.Tie as tie
 
 abbrev Inv-loop : tie.InvT-loop
-Inv-loop words₀ at rows lines k out₀ i₀ words out i = (Writing words₀ words at out (flatMap pairWords (linesFrom rows lines k i)) (flatMap pairWords (linesOf k (entries rows lines)))) × (i ≤ lines)
+Inv-loop words₀ at rows lines k out₀ i₀ words out i = (Writing words₀ words at out (length words₀) (flatMap pairWords (linesOf k (entries rows lines))) (flatMap pairWords (linesFrom rows lines k i))) × (i ≤ lines)
 
 abbrev μ-loop : tie.MeasureT-loop
 μ-loop words₀ at rows lines k out₀ i₀ words out i = lines - i
@@ -21,7 +22,7 @@ abbrev μ-loop : tie.MeasureT-loop
 loop-holds : tie.Need-loop-holds Inv-loop μ-loop
 loop-holds c =
     let s = c .before .before in
-    (write-starts _ _ (ap (flatMap pairWords) (lines-all _ _ (s .pre .0) _)), omega arith)
+    (writing-same (sym (ap (flatMap pairWords) (lines-all _ _ (s .pre .0) _))) (writing-start _ _ _ _), omega arith)
 
 mul-j : tie.Need-mul-j Inv-loop μ-loop
 mul-j c = omega arith
@@ -63,7 +64,7 @@ put-two-requires c κs =
     let ws = s .args .rows .now in
     let i = at-loop .loop .i in
     let e = lines-in ws _ (s .pre .0) _ i (at-loop-test .loop-test .taken) (at-if1 .if1 .taken) in
-    let r = write-room (getD ws (3 * i + 1) 0 ∷ getD ws (3 * i + 2) 0 ∷ []) _ (at-loop .loop .inv .0) (ap (flatMap pairWords) e) (s .pre .1) in
+    let r = writing-room (at-loop .loop .inv .0) (getD ws (3 * i + 1) 0 ∷ getD ws (3 * i + 2) 0 ∷ []) _ (ap (flatMap pairWords) e) (s .pre .1) in
     omega arith
 
 loop-less : tie.Need-loop-less Inv-loop μ-loop
@@ -77,7 +78,7 @@ loop-again c =
     let at-loop-test = at-if1 .before .before in
     let at-loop = at-loop-test .before in
     let s = at-loop .before .before .before in
-    (write-more (at-loop .loop .inv .0) (ap (flatMap pairWords) (lines-in _ _ (s .pre .0) _ _ (at-loop-test .loop-test .taken) (at-if1 .if1 .taken))) (at-put-two .put-two .ensures), omega arith)
+    (writing-some (at-loop .loop .inv .0) (ap (flatMap pairWords) (lines-in _ _ (s .pre .0) _ _ (at-loop-test .loop-test .taken) (at-if1 .if1 .taken))) (at-put-two .put-two .ensures) (at-put-two .put-two .kept .0), omega arith)
 
 loop-less-2 : tie.Need-loop-less-2 Inv-loop μ-loop
 loop-less-2 c = omega arith
@@ -87,7 +88,7 @@ loop-again-2 c =
     let at-loop-test = c .before .before in
     let at-loop = at-loop-test .before in
     let s = at-loop .before .before .before in
-    (write-skips (at-loop .loop .inv .0) (ap (flatMap pairWords) (lines-out _ _ (s .pre .0) _ _ (at-loop-test .loop-test .taken) (c .if1 .left))), omega arith)
+    (writing-same (ap (flatMap pairWords) (lines-out _ _ (s .pre .0) _ _ (at-loop-test .loop-test .taken) (c .if1 .left))) (at-loop .loop .inv .0), omega arith)
 
 same-length : tie.Need-same-length Inv-loop μ-loop
 same-length c = c .before .loop .inv .0 .size
@@ -97,7 +98,7 @@ unfolding flatMap
 returns c =
     let at-loop = c .before in
     let s = at-loop .before .before .before in
-    write-ends (at-loop .loop .inv .0) (ap (flatMap pairWords) (lines-done _ _ (s .pre .0) _ _ (c .loop-test .left)))
+    writing-end (writing-same (ap (flatMap pairWords) (lines-done _ _ (s .pre .0) _ _ (c .loop-test .left))) (at-loop .loop .inv .0))
 
 pub put-table-spec : {M : Type 1} → statement M
 put-table-spec =

@@ -39,12 +39,6 @@ pub record LinesRead (s ws vs : List ℕ) (r : Scan) (outcome : Outcome) : Type 
 
 -- ---- words written one behind the other
 
--- xs stands behind the first `out` words, and ends at r
-pub record Wrote (before after : List ℕ) (out : ℕ) (xs : List ℕ) (r : ℕ) : Type 0 where
-  pub ends : r ≡ out + length xs
-  pub words : take r after ≡ take out before ++ xs
-  pub size : length after ≡ length before
-
 -- the words of a pair, a node, an edge
 abbrev pub pairWords : Pair → List ℕ
 pairWords p = p .left ∷ p .right ∷ []

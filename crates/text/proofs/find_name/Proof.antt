@@ -1,14 +1,15 @@
 -- `text::find_name` meets its contract. The loop's invariant: none of the names passed is the one. Assumes nothing.
 use Prim.Native.Nat.{_-_}
+use lib.Seq.{slice}
 use mathlib.Core.Path.{_≡_, refl, _∙_, sym}
-use Rattle.text.specs.inner.Parts.{part, nameAt}
+use Rattle.text.specs.inner.Parts.{nameAt}
 use Rattle.text.proofs.Spans.{Finding, find-starts, find-stops, find-goes-on, find-ends}
 use native.Mathlib.Omega.{arith}
 use Rattle.text.proofs.find_name.Statement.{statement}
 use Rattle.text.proofs.find_name.Tie as tie
 
 abbrev Inv-loop : tie.InvT-loop
-Inv-loop s a e names n i₀ i = (Finding s (part s a e) names i) × (n ≡ names .n)
+Inv-loop s a e names n i₀ i = (Finding s (slice a e s) names i) × (n ≡ names .n)
 
 abbrev μ-loop : tie.MeasureT-loop
 μ-loop s a e names n i₀ i = n - i

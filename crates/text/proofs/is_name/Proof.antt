@@ -7,7 +7,7 @@ use Rattle.text.proofs.is_name.Statement.{statement}
 use Rattle.text.proofs.is_name.Tie as tie
 
 returns : tie.Need-returns
-returns c = no-name _ _ _ (c .before .before .pre .ends) (omega arith)
+returns c = no-name _ (c .before .before .args .a) _ (c .before .before .pre .ends) (omega arith)
 
 sub-if2 : tie.Need-sub-if2
 sub-if2 c = search needs

@@ -7,7 +7,7 @@ use Rattle.text.proofs.is_number.Statement.{statement}
 use Rattle.text.proofs.is_number.Tie as tie
 
 returns : tie.Need-returns
-returns c = no-number _ _ _ (c .before .before .pre .ends) (omega arith)
+returns c = no-number _ (c .before .before .args .a) _ (c .before .before .pre .ends) (omega arith)
 
 sub-if2 : tie.Need-sub-if2
 sub-if2 c = search needs

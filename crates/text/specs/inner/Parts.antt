@@ -1,6 +1,6 @@
 -- Parts: what the functions on a byte slice promise, which name a part of it by two places.
 --
--- In order: a part; the end of the next part before a separator; the fields of a line; names by the places where they stand.
+-- In order: a part's places; the end of the next part before a separator; the fields of a line; names by the places where they stand.
 -- Assumes nothing.
 use Prim.Native.Nat.{ℕ, _+_, _≤_, _<_, min}
 use mathlib.Core.Path.{_≡_}
@@ -12,10 +12,7 @@ use Rattle.text.specs.declared.Span.{Span}
 use Rattle.text.specs.declared.Names.{Names}
 use Rattle.text.specs.declared.Fields.{Fields}
 
--- the bytes from place a up to place e
-unfoldable pub part : List ℕ → ℕ → ℕ → List ℕ
-part s a e = slice a e s
-
+-- the places a and e bound a part of the slice, which is `slice a e s`
 pub record Inside (s : List ℕ) (a e : ℕ) : Type 0 where
   pub ordered : a ≤ e
   pub ends : e ≤ length s
@@ -24,8 +21,8 @@ pub record Inside (s : List ℕ) (a e : ℕ) : Type 0 where
 pub record Cut (s : List ℕ) (a e sep r : ℕ) : Type 0 where
   pub from : a ≤ r
   pub upTo : r ≤ e
-  pub last : e ≤ r → split sep (part s a e) ≡ record { first = part s a e; rest = [] }
-  pub more : r < e → split sep (part s a e) ≡ record { first = part s a r; rest = split sep (part s (r + 1) e) .first ∷ split sep (part s (r + 1) e) .rest }
+  pub last : e ≤ r → split sep (slice a e s) ≡ record { first = slice a e s; rest = [] }
+  pub more : r < e → split sep (slice a e s) ≡ record { first = slice a r s; rest = split sep (slice (r + 1) e s) .first ∷ split sep (slice (r + 1) e s) .rest }
 
 -- ---- the fields of a line, as far as a line may have: two, or three
 
@@ -33,18 +30,18 @@ pub record Cut (s : List ℕ) (a e sep r : ℕ) : Type 0 where
 pub record Two (s : List ℕ) (a e m : ℕ) : Type 0 where
   pub from : a ≤ m
   pub before : m < e
-  pub shown : fields (part s a e) ≡ part s a m ∷ part s (m + 1) e ∷ []
+  pub shown : fields (slice a e s) ≡ slice a m s ∷ slice (m + 1) e s ∷ []
 
 -- three fields, with their separators at m and k
 pub record Three (s : List ℕ) (a e m k : ℕ) : Type 0 where
   pub from : a ≤ m
   pub between : m < k
   pub before : k < e
-  pub shown : fields (part s a e) ≡ part s a m ∷ part s (m + 1) k ∷ part s (k + 1) e ∷ []
+  pub shown : fields (slice a e s) ≡ slice a m s ∷ slice (m + 1) k s ∷ slice (k + 1) e s ∷ []
 
 -- how many fields there are, 4 standing for more than 3, and where they end
 pub record Fielded (s : List ℕ) (a e : ℕ) (f : Fields) : Type 0 where
-  pub counted : f .count ≡ min 4 (length (fields (part s a e)))
+  pub counted : f .count ≡ min 4 (length (fields (slice a e s)))
   pub two : f .count ≡ 2 → Two s a e (f .first)
   pub three : f .count ≡ 3 → Three s a e (f .first) (f .second)
 
@@ -54,7 +51,7 @@ abbrev pub span : ℕ → ℕ → Span
 span a e = record { start = a; end = e }
 
 unfoldable pub nameAt : List ℕ → Span → List ℕ
-nameAt s p = part s (p .start) (p .end)
+nameAt s p = slice (p .start) (p .end) s
 
 unfoldable pub namesOf : List ℕ → Names → List (List ℕ)
 namesOf s x = map (nameAt s) (take (x .n) (x .spans))
