@@ -1,4 +1,3 @@
 pub mod Check
 pub mod Embeddings
 pub mod Words
-pub mod Builder

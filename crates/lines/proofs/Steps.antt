@@ -15,10 +15,10 @@ use lib.ListN.{length, getD}
 use lib.Seq.{slice, length-slice, length-take-le}
 use Rattle.tables.specs.Order.{pair}
 use Rattle.tables.proofs.Tests.{both-true}
-use Rattle.drawing.specs.declared.Line.the-variants.{Added, Full}
 use Rattle.drawing.specs.Drawing.{node, edge}
-use Rattle.drawing.specs.Builder.{view, withNode, withEdge}
-use Rattle.drawing.proofs.Builder.{Roomy, moreNodes, moreEdges, node-full, node-added, node-roomy, view-node, edge-full, edge-added, edge-roomy, view-edge}
+use Rattle.builder.specs.declared.Line.the-variants.{Added, Full}
+use Rattle.builder.specs.Builder.{view, withNode, withEdge}
+use Rattle.builder.proofs.Builder.{Roomy, moreNodes, moreEdges, node-full, node-added, node-roomy, view-node, edge-full, edge-added, edge-roomy, view-edge}
 use Rattle.text.specs.Text.{fields, isName, isNumber, valueOf, same, find, known}
 use Rattle.text.specs.inner.Parts.{Inside, Two, Three, span, nameAt, namesOf, withName}
 use Rattle.text.proofs.Words.{name-length, number}

@@ -1,7 +1,7 @@
 // The lines of a sheet: what one line adds to what has been read.
 
-use drawing::Drawing;
-use drawing::Line;
+use builder::Drawing;
+use builder::Line;
 use text::Names;
 use text::fields_of;
 use text::find_name;
@@ -17,7 +17,7 @@ ghost use Prim.Native.Nat.{_+_, _*_, _≤_, _<_};
 ghost use lib.ListN.{length, getD};
 ghost use lib.Seq.{slice};
 ghost use Rattle.tables.specs.Order.{pair};
-ghost use Rattle.drawing.specs.Builder.{withNode, withEdge};
+ghost use Rattle.builder.specs.Builder.{withNode, withEdge};
 ghost use Rattle.text.specs.Text.{fields, isName, isNumber, same, known};
 ghost use Rattle.text.specs.inner.Parts.{Inside, Two, Three, span, namesOf, Spans};
 ghost use Rattle.lines.specs.Reading.{fitsTable, readClass, readLabel, readNode, readEdge, readValues, headers, readHeader, readLine};

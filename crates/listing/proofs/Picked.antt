@@ -12,9 +12,9 @@ use lib.ListN.{length, getD, take, length-take, drop-of-length-le}
 use lib.Seq.{slice, slice-cons}
 use borrow.Author.Tests.{eq-eqb, ne-eqb}
 use Rattle.drawing.specs.declared.Node.{Node}
-use Rattle.drawing.specs.declared.Drawing.{Drawing}
 use Rattle.drawing.specs.Drawing.{node, isPicked}
-use Rattle.drawing.specs.Builder.{view}
+use Rattle.builder.specs.declared.Drawing.{Drawing}
+use Rattle.builder.specs.Builder.{view}
 use Rattle.text.specs.inner.Parts.{span, nameAt, namesOf, Spans}
 use Rattle.text.specs.declared.Names.{Names}
 use Rattle.listing.specs.Listing.{line, pickedNames}

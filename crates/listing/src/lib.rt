@@ -1,14 +1,14 @@
 // The listing of a query's rows, or of a refusal, in a lent slice of bytes. A function that writes takes the place where its text starts, and
 // returns the place after it. Bytes past the end of the slice are left out, and from there on the place stays past the end.
 
-use drawing::Drawing;
+use builder::Drawing;
 use text::Names;
 ghost use mathlib.Core.Path.{_≡_};
 ghost use Prim.Native.Nat.{_+_, _<_, _≤_, min};
 ghost use mathlib.Core.List.{[], _∷_, _++_, map};
 ghost use lib.ListN.{length, getD, take, replicate};
 ghost use lib.Seq.{slice};
-ghost use Rattle.drawing.specs.Builder.{view};
+ghost use Rattle.builder.specs.Builder.{view};
 ghost use Rattle.text.specs.Text.{digits};
 ghost use Rattle.text.specs.inner.Parts.{Inside, span, nameAt, namesOf, Spans};
 ghost use Rattle.listing.specs.Listing.{line, pickedNames, listing, refusal, listedIn};

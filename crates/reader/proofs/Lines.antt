@@ -11,8 +11,8 @@ use lib.Dec.{eqb}
 use lib.ListN.{length}
 use lib.Seq.{slice, take-length}
 use Rattle.tables.proofs.Parts.{slice-none, slice-next}
-use Rattle.drawing.specs.Builder.{emptyDrawing}
-use Rattle.drawing.proofs.Builder.{view-empty, roomy-empty}
+use Rattle.builder.specs.Builder.{emptyDrawing}
+use Rattle.builder.proofs.Builder.{view-empty, roomy-empty}
 use Rattle.text.specs.Text.{split}
 use Rattle.text.specs.inner.Parts.{Cut, noNames}
 use Rattle.text.proofs.Spans.{names-none, spans-none}

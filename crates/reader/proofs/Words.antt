@@ -13,9 +13,9 @@ use native.Mathlib.Numerals.{add-one}
 use Rattle.tables.specs.Lists.{below}
 use Rattle.drawing.specs.declared.Node.{Node}
 use Rattle.drawing.specs.declared.Edge.{Edge}
-use Rattle.drawing.specs.declared.Drawing.{Drawing}
 use Rattle.drawing.specs.Drawing.{nodeCount, nodesOf, edgesOf, patternOf}
-use Rattle.drawing.specs.Builder.{view}
+use Rattle.builder.specs.declared.Drawing.{Drawing}
+use Rattle.builder.specs.Builder.{view}
 use Rattle.words.specs.inner.Words.{Wrote}
 use Rattle.text.proofs.Spans.{length-names}
 use Rattle.lines.specs.declared.State.{State}

@@ -1,6 +1,6 @@
 // The reader of a sheet: from bytes to the words of a feed and of a drawing, or the line of the first breach.
 
-use drawing::Drawing;
+use builder::Drawing;
 use lines::State;
 use lines::Tables;
 use lines::read_line;

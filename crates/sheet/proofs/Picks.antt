@@ -17,12 +17,12 @@ use Rattle.tables.specs.Lists.{_∈_, keep}
 use Rattle.tables.specs.Order.{pair}
 use Rattle.feed.specs.Feed.{classTable}
 use Rattle.drawing.specs.declared.Node.{Node}
-use Rattle.drawing.specs.declared.Drawing.{Drawing}
 use Rattle.drawing.specs.Drawing.{Pattern, node, isPicked}
-use Rattle.drawing.specs.Builder.{view}
 use Rattle.drawing.specs.Embeddings.{picked, rows}
-use Rattle.drawing.proofs.Builder.{Roomy}
 use Rattle.drawing.proofs.Embeddings.{in-rows}
+use Rattle.builder.specs.declared.Drawing.{Drawing}
+use Rattle.builder.specs.Builder.{view}
+use Rattle.builder.proofs.Builder.{Roomy}
 use Rattle.rows.specs.Rows.{rowWords}
 use Rattle.query.specs.Query.{pickCount}
 use Rattle.listing.specs.inner.Written.{rowsOf}

@@ -1,7 +1,7 @@
 // The sheet query: a sheet's bytes in, a listing's bytes out.
 
-use drawing::Drawing;
-use drawing::read_drawing;
+use builder::Drawing;
+use builder::read_drawing;
 use listing::write_listing;
 use listing::write_refusal;
 use query::QueryCheck;
@@ -20,7 +20,7 @@ ghost use Prim.Native.Nat.{_≤_, _<_};
 ghost use lib.ListN.{length, take};
 ghost use Rattle.tables.specs.Verdict.{accepted, isAccepted};
 ghost use Rattle.drawing.specs.Drawing.{nodeCount, patternOf, checkLength};
-ghost use Rattle.drawing.specs.Builder.{view};
+ghost use Rattle.builder.specs.Builder.{view};
 ghost use Rattle.algebra.specs.Run.{roomOf};
 ghost use Rattle.run.specs.inner.Standing.{Scratch};
 ghost use Rattle.translate.specs.Answers.{translationVerdict};

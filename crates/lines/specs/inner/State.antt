@@ -11,11 +11,11 @@ use lib.Dec.{ltb}
 use lib.ListN.{length, set, take}
 use Rattle.tables.specs.Order.{pair}
 use Rattle.tables.specs.declared.Pair.{Pair}
-use Rattle.drawing.specs.declared.Drawing.{Drawing}
-use Rattle.drawing.specs.declared.Built.{Built}
-use Rattle.drawing.specs.declared.Line.{Line}
-use Rattle.drawing.specs.declared.Line.the-variants.{Added, Full}
-use Rattle.drawing.specs.Builder.{view}
+use Rattle.builder.specs.declared.Drawing.{Drawing}
+use Rattle.builder.specs.declared.Built.{Built}
+use Rattle.builder.specs.declared.Line.{Line}
+use Rattle.builder.specs.declared.Line.the-variants.{Added, Full}
+use Rattle.builder.specs.Builder.{view}
 use Rattle.text.specs.declared.Span.{Span}
 use Rattle.text.specs.declared.Names.{Names}
 use Rattle.text.specs.inner.Parts.{Inside, namesOf, withName, Spans}

@@ -3,7 +3,7 @@ use Prim.Native.Nat.{_-_}
 use native.Mathlib.Omega.{arith}
 use borrow.Author.Needs.{needs}
 use mathlib.Core.Path.{_≡_, refl, _∙_}
-use Rattle.drawing.proofs.Builder.{roomy}
+use Rattle.builder.proofs.Builder.{roomy}
 use Rattle.listing.proofs.Putting.{put-size}
 use Rattle.listing.proofs.Picked.{Named, Naming, naming-start, naming-takes, naming-skips, naming-end}
 use Rattle.listing.proofs.put_names.Statement.{statement}

@@ -2,7 +2,7 @@
 use mathlib.Core.Path.{refl}
 use lib.ListN.{take}
 use lib.Seq.{length-take-le}
-use Rattle.drawing.specs.Builder.{view}
+use Rattle.builder.specs.Builder.{view}
 use Rattle.reader.specs.inner.Answers.{nodeWords}
 use Rattle.reader.proofs.Writing.{wrote-then, wrote-as}
 use Rattle.reader.proofs.Sizes.{length-words}

@@ -12,8 +12,8 @@ use Rattle.tables.specs.declared.Pair.{Pair}
 use Rattle.tables.specs.Lists.{below}
 use Rattle.drawing.specs.declared.Node.{Node}
 use Rattle.drawing.specs.declared.Edge.{Edge}
-use Rattle.drawing.specs.declared.Drawing.{Drawing}
-use Rattle.drawing.specs.Builder.{emptyDrawing, view}
+use Rattle.builder.specs.declared.Drawing.{Drawing}
+use Rattle.builder.specs.Builder.{emptyDrawing, view}
 use Rattle.text.specs.inner.Parts.{namesOf, noNames, Spans}
 use Rattle.lines.specs.declared.State.{State}
 use Rattle.lines.specs.Reading.{Entry, Reading}

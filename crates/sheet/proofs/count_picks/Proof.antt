@@ -3,8 +3,8 @@
 use Prim.Native.Nat.{_-_, _≤_}
 use native.Mathlib.Omega.{arith}
 use borrow.Author.Needs.{needs}
-use Rattle.drawing.specs.Builder.{view}
-use Rattle.drawing.proofs.Builder.{roomy}
+use Rattle.builder.specs.Builder.{view}
+use Rattle.builder.proofs.Builder.{roomy}
 use Rattle.query.specs.Query.{pickCount}
 use Rattle.sheet.proofs.Picks.{Tallied, tallied-start, tallied-picked, tallied-passed, tallied-end, nodes-counted, node-at, is-picked, not-picked}
 use Rattle.sheet.proofs.count_picks.Statement.{statement}

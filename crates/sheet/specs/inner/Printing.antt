@@ -6,9 +6,9 @@ use Prim.Native.Nat.{ℕ, _≤_}
 use mathlib.Core.Path.{_≡_}
 use mathlib.Core.List.{List}
 use Rattle.tables.specs.Verdict.{Verdict, accepted, refused, number, location}
-use Rattle.drawing.specs.declared.Drawing.{Drawing}
 use Rattle.drawing.specs.Drawing.{patternOf}
 use Rattle.drawing.specs.Embeddings.{rows}
+use Rattle.builder.specs.declared.Drawing.{Drawing}
 use Rattle.query.specs.Query.{query}
 use Rattle.query.specs.Answers.{slices}
 use Rattle.text.specs.declared.Names.{Names}
