@@ -36,6 +36,7 @@ pub const JOINED: &str = "the union of two runs is made in the other slice and c
 const FORETOLD: &str = "the merge picks and does not branch, so each step waits for the one before; the peer branches, which is faster where \
     the branch is foretold and slower where it is not, and copies the rest of a table as a whole";
 const LAST: &str = "a left value is written where it stands for the last time, so each step looks at two pairs and for the end of the table";
+const GROUP: &str = "the room is tested at each pair; the peer tests it once and copies the group as a whole";
 const SHORT: &str = "a loop of one or two cycles a pair, for which the place that the linker gives it counts as much as its text";
 
 /// Adds the operands of about so many pairs to a program, and gives the operator's two words.
@@ -169,8 +170,8 @@ fn cases() -> Vec<Case> {
         }),
         case(13, "rights ascend with the lefts", CALLS, |p, _, n| one(p, &graph(n, |i| i))),
         case(13, "sixteen rights", CALLS, |p, r, n| one(p, &graph(n, |_| r.below(16) as u32))),
-        case(14, "half of the pairs", SHORT, |p, _, n| (one(p, &block(2, n as u32 / 2)).0, 1)),
-        case(14, "none of the pairs", SHORT, |p, r, n| (one(p, &ordinary(r, n)).0, 99_999)),
+        case(14, "half of the pairs", GROUP, |p, _, n| (one(p, &block(2, n as u32 / 2)).0, 1)),
+        case(14, "all of the pairs", GROUP, |p, _, n| (one(p, &block(1, n as u32)).0, 0)),
         case(15, "half of the pairs, at random", SHORT, |p, r, n| (one(p, &graph(n, |_| r.below(2) as u32)).0, 1)),
         case(15, "none of the pairs", SHORT, |p, r, n| (one(p, &ordinary(r, n)).0, 99_999)),
     ]
