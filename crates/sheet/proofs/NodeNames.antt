@@ -15,9 +15,9 @@ use Rattle.tables.specs.Lists.{_∈_}
 use Rattle.tables.proofs.Members.{in-append}
 use Rattle.tables.proofs.Tests.{both-true, leb-is, ltb-is}
 use Rattle.drawing.specs.declared.Node.{Node}
-use Rattle.text.specs.Text.{split, fields, isName, within}
-use Rattle.lines.specs.Reading.{Reading, nothing, allow, turnTo, withClasses, withLabels, withNode, withEdge, readClass, readLabel, readNode, readEdge, readValues, endSection, readOpened, readHeader, byStage, readLine}
-use Rattle.reader.specs.Sheet.{Outcome, read, breach, finish, continue, endsAt, readLines, readSheet}
+use Rattle.sheet_text.specs.Text.{split, fields, isName, within}
+use Rattle.sheet_lines.specs.Reading.{Reading, nothing, allow, turnTo, withClasses, withLabels, withNode, withEdge, readClass, readLabel, readNode, readEdge, readValues, endSection, readOpened, readHeader, byStage, readLine}
+use Rattle.sheet_reader.specs.Sheet.{Outcome, read, breach, finish, continue, endsAt, readLines, readSheet}
 
 -- every name, or any other field, is shorter than w
 unfoldable pub Shorter : ℕ → List (List ℕ) → Type 0

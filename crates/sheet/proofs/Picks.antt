@@ -23,10 +23,10 @@ use Rattle.drawing.proofs.Embeddings.{in-rows}
 use Rattle.builder.specs.declared.Drawing.{Drawing}
 use Rattle.builder.specs.Builder.{view}
 use Rattle.builder.proofs.Builder.{Roomy}
-use Rattle.rows.specs.Rows.{rowWords}
+use Rattle.query_rows.specs.Rows.{rowWords}
 use Rattle.query.specs.Query.{pickCount}
-use Rattle.listing.specs.inner.Written.{rowsOf}
-use Rattle.listing.proofs.Rows.{rows-joined}
+use Rattle.sheet_listing.specs.inner.Written.{rowsOf}
+use Rattle.sheet_listing.proofs.Rows.{rows-joined}
 
 -- ---- a count
 

@@ -24,19 +24,19 @@ use Rattle.drawing.proofs.Check.{drawing-feed, drawing-checked}
 use Rattle.drawing.proofs.Words.{lengths}
 use Rattle.algebra.specs.Instructions.{Instruction}
 use Rattle.translator.specs.Translation.{translation, checkList}
-use Rattle.rows.specs.Rows.{rowWords, checkRows}
+use Rattle.query_rows.specs.Rows.{rowWords, checkRows}
 use Rattle.query.specs.Query.{Answer, Lent, pickCount, answer, query}
 use Rattle.query.specs.Answers.{queryVerdict, extentIn, slices, Answers}
 use Rattle.query.specs.declared.QueryCheck.{QueryCheck}
-use Rattle.text.specs.declared.Names.{Names}
-use Rattle.text.specs.inner.Parts.{namesOf}
-use Rattle.lines.specs.Reading.{Reading}
-use Rattle.reader.specs.declared.SheetWords.{SheetWords}
-use Rattle.reader.specs.inner.Answers.{Given}
-use Rattle.reader.specs.Sheet.{readSheet, breach, feedWords, drawingWords}
-use Rattle.reader.proofs.Words.{pattern-back}
-use Rattle.listing.specs.Listing.{pickedNames, listing, refusal, listedIn}
-use Rattle.listing.specs.inner.Written.{rowsOf}
+use Rattle.sheet_text.specs.declared.Names.{Names}
+use Rattle.sheet_text.specs.inner.Parts.{namesOf}
+use Rattle.sheet_lines.specs.Reading.{Reading}
+use Rattle.sheet_reader.specs.declared.SheetWords.{SheetWords}
+use Rattle.sheet_reader.specs.inner.Answers.{Given}
+use Rattle.sheet_reader.specs.Sheet.{readSheet, breach, feedWords, drawingWords}
+use Rattle.sheet_reader.proofs.Words.{pattern-back}
+use Rattle.sheet_listing.specs.Listing.{pickedNames, listing, refusal, listedIn}
+use Rattle.sheet_listing.specs.inner.Written.{rowsOf}
 use Rattle.sheet.specs.SheetQuery.{ownSlices, answerText, outcomeText, sheetListing, sheetQuery}
 use Rattle.sheet.specs.inner.Printing.{Fresh, refusalOf, textBy, wordsText}
 use Rattle.sheet.proofs.Picks.{rows-back}

@@ -10,9 +10,9 @@ use Rattle.drawing.specs.Drawing.{patternOf}
 use Rattle.drawing.specs.Embeddings.{rows}
 use Rattle.algebra.specs.Instructions.{instructionCeiling}
 use Rattle.query.specs.Query.{query, Lent}
-use Rattle.listing.specs.Listing.{pickedNames, listing, refusal, Listed, listedIn}
-use Rattle.lines.specs.Reading.{Reading}
-use Rattle.reader.specs.Sheet.{Outcome, read, breach, readSheet, feedWords, drawingWords}
+use Rattle.sheet_listing.specs.Listing.{pickedNames, listing, refusal, Listed, listedIn}
+use Rattle.sheet_lines.specs.Reading.{Reading}
+use Rattle.sheet_reader.specs.Sheet.{Outcome, read, breach, readSheet, feedWords, drawingWords}
 
 -- "The sheet query lends itself 16,384 work words, 4,096 row words and room for every instruction"
 unfoldable pub ownSlices : Lent

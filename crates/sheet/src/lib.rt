@@ -2,17 +2,17 @@
 
 use builder::Drawing;
 use builder::read_drawing;
-use listing::write_listing;
-use listing::write_refusal;
 use query::QueryCheck;
 use query::extent;
 use query::query_with;
 use query::say_query;
-use reader::Found;
-use reader::SheetWords;
-use reader::read_sheet;
 use run::is_finished;
-use text::Names;
+use sheet_listing::write_listing;
+use sheet_listing::write_refusal;
+use sheet_reader::Found;
+use sheet_reader::SheetWords;
+use sheet_reader::read_sheet;
+use sheet_text::Names;
 use translate::TranslationCheck;
 use translate::accepts;
 ghost use mathlib.Core.Path.{_≡_};
@@ -26,10 +26,10 @@ ghost use Rattle.run.specs.inner.Standing.{Scratch};
 ghost use Rattle.translate.specs.Answers.{translationVerdict};
 ghost use Rattle.query.specs.Query.{pickCount};
 ghost use Rattle.query.specs.Answers.{queryVerdict};
-ghost use Rattle.text.specs.inner.Parts.{namesOf, Spans};
-ghost use Rattle.reader.specs.inner.Answers.{Answers};
-ghost use Rattle.listing.specs.Listing.{pickedNames, listing, listedIn};
-ghost use Rattle.listing.specs.inner.Written.{listed, rowsOf};
+ghost use Rattle.sheet_text.specs.inner.Parts.{namesOf, Spans};
+ghost use Rattle.sheet_reader.specs.inner.Answers.{Answers};
+ghost use Rattle.sheet_listing.specs.Listing.{pickedNames, listing, listedIn};
+ghost use Rattle.sheet_listing.specs.inner.Written.{listed, rowsOf};
 ghost use Rattle.sheet.specs.SheetQuery.{sheetQuery};
 ghost use Rattle.sheet.specs.inner.Printing.{Sized, Fresh, refusalOf, wordsText};
 

@@ -4,9 +4,9 @@ use borrow.Author.Needs.{needs}
 use Prim.Native.Nat.{ℕ}
 use mathlib.Core.Path.{sym, ap, _∙_}
 use mathlib.Core.List.{List}
-use Rattle.reduce.proofs.Whole.{translatable}
+use Rattle.translate.proofs.Whole.{translatable}
 use Rattle.query.proofs.Answers.{extent-inside}
-use Rattle.listing.specs.Listing.{listedIn}
+use Rattle.sheet_listing.specs.Listing.{listedIn}
 use Rattle.sheet.proofs.Printing.{accepts-all, drawing-accepted, some-pick, text-rows, text-refusal}
 use Rattle.sheet.proofs.print_answer.Statement.{statement}
 use Rattle.sheet.proofs.print_answer.Tie as tie

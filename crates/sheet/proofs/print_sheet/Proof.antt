@@ -2,7 +2,7 @@
 -- Assumes nothing.
 use borrow.Author.Needs.{needs}
 use mathlib.Core.Path.{_∙_}
-use Rattle.reader.proofs.Words.{answer-broken, answer-whole}
+use Rattle.sheet_reader.proofs.Words.{answer-broken, answer-whole}
 use Rattle.sheet.proofs.Printing.{named, whole-listed, breach-listed}
 use Rattle.sheet.proofs.print_sheet.Statement.{statement}
 use Rattle.sheet.proofs.print_sheet.Tie as tie

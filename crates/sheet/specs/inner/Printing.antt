@@ -11,9 +11,9 @@ use Rattle.drawing.specs.Embeddings.{rows}
 use Rattle.builder.specs.declared.Drawing.{Drawing}
 use Rattle.query.specs.Query.{query}
 use Rattle.query.specs.Answers.{slices}
-use Rattle.text.specs.declared.Names.{Names}
-use Rattle.text.specs.inner.Parts.{namesOf}
-use Rattle.listing.specs.Listing.{pickedNames, listing, refusal}
+use Rattle.sheet_text.specs.declared.Names.{Names}
+use Rattle.sheet_text.specs.inner.Parts.{namesOf}
+use Rattle.sheet_listing.specs.Listing.{pickedNames, listing, refusal}
 use Rattle.sheet.specs.SheetQuery.{ownSlices}
 
 -- a drawing of at most 12 nodes

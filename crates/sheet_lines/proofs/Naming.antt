@@ -1,0 +1,89 @@
+-- Naming: names that are numbered by first appearance.
+--
+-- In order: whether a name is known; a name that fits; the names with one that fits.
+-- Assumes nothing.
+use mathlib.Core.Path.{_≡_, refl, _∙_, sym}
+use mathlib.Core.Bool.{Bool, true, false, _&&_, _||_, cond}
+use mathlib.Core.List.{List, [], _∷_, _++_}
+use Prim.Native.Nat.{ℕ, suc, _+_, _<_, _≤_}
+use native.Mathlib.Omega.{arith}
+use borrow.Author.Tests.{le-leb, leb-true}
+use lib.Dec.{leb, ltb}
+use lib.ListN.{length, length-append}
+use lib.Seq.{slice}
+use Rattle.tables.proofs.Tests.{both-true}
+use Rattle.sheet_text.specs.declared.Names.{Names}
+use Rattle.sheet_text.specs.Text.{isName, same, find, known}
+use Rattle.sheet_text.specs.inner.Parts.{Inside, span, nameAt, namesOf, withName, Spans}
+use Rattle.sheet_text.proofs.Spans.{length-names, names-longer, spans-longer}
+use Rattle.sheet_lines.specs.Reading.{numbered, fitsTable}
+use Rattle.sheet_lines.specs.inner.State.{Numbered}
+
+-- ---- whether a name is known
+
+pub find-bound : (name : List ℕ) (names : List (List ℕ)) → find name names ≤ length names
+unfolding find
+find-bound name [] = omega arith
+find-bound name (n ∷ ns) = step (same name n) (find-bound name ns)
+  where
+    step : (b : Bool) → find name ns ≤ length ns → cond b 0 (find name ns + 1) ≤ suc (length ns)
+    step true h = omega arith
+    step false h = omega arith
+
+module _ {s : List ℕ} {x : Names} {ceiling : ℕ} (g : Spans s x ceiling) (c : ceiling ≤ 64) (name : List ℕ) where
+  pub known-is : ltb (find name (namesOf s x)) (x .n) ≡ known name (namesOf s x)
+  unfolding known
+  known-is = rw (length-names g c)
+
+  pub find-small : find name (namesOf s x) ≤ 64
+  find-small = let h = find-bound name (namesOf s x) in omega (arith, length-names g c, g .few)
+
+  -- ---- a name that fits
+
+  fits-step : (names : List (List ℕ)) (n : ℕ) → length names ≡ n → n ≤ ceiling → (b : Bool) →
+      (ltb n ceiling || b) ≡ leb (length (cond b names (names ++ (name ∷ [])))) ceiling
+  fits-step names n l h true = or-true (ltb n ceiling) ∙ sym (rw l (le-leb n ceiling h))
+    where
+      or-true : (b : Bool) → b || true ≡ true
+      or-true true = refl
+      or-true false = refl
+  fits-step names n l h false =
+      let z : length (names ++ (name ∷ [])) ≡ suc n = simp length-append (omega arith) in
+      rw z (or-false (ltb n ceiling))
+    where
+      or-false : (b : Bool) → b || false ≡ b
+      or-false true = refl
+      or-false false = refl
+
+  pub fits-is : (isName name && (ltb (x .n) ceiling || known name (namesOf s x))) ≡ fitsTable ceiling name (namesOf s x)
+  unfolding fitsTable numbered
+  fits-is = rw (fits-step (namesOf s x) (x .n) (length-names g c) (g .few) (known name (namesOf s x)))
+
+pub fits-name : (ceiling : ℕ) (name : List ℕ) (names : List (List ℕ)) → fitsTable ceiling name names ≡ true → isName name ≡ true
+unfolding fitsTable
+fits-name ceiling name names t = both-true (isName name) _ .0 t .0
+
+-- ---- the names with one that fits
+
+module _ {s : List ℕ} {x : Names} {ceiling : ℕ} (g : Spans s x ceiling) (c : ceiling ≤ 64) {a e : ℕ} (i : Inside s a e) where
+  pub stays-numbered : known (slice a e s) (namesOf s x) ≡ true → Numbered s (slice a e s) ceiling x x
+  unfolding numbered
+  stays-numbered k = record { names = rw k; spans = g }
+
+  pub new-fits : fitsTable ceiling (slice a e s) (namesOf s x) ≡ true → known (slice a e s) (namesOf s x) ≡ false → x .n + 1 ≤ ceiling
+  unfolding fitsTable numbered
+  new-fits t k =
+      let h = leb-true _ ceiling (rw k at (both-true (isName (slice a e s)) (leb (length (numbered (slice a e s) (namesOf s x))) ceiling) .0 t .1)) in
+      let l = length-append (namesOf s x) (slice a e s ∷ []) in
+      omega (arith, length-names g c)
+
+  pub new-numbered : fitsTable ceiling (slice a e s) (namesOf s x) ≡ true → known (slice a e s) (namesOf s x) ≡ false →
+      Numbered s (slice a e s) ceiling x (withName x (span a e))
+  unfolding numbered nameAt
+  new-numbered t k =
+      let n = new-fits t k in
+      let room : x .n < 64 = omega arith in
+      record {
+        names = rw k (names-longer g room (span a e));
+        spans = spans-longer g room (span a e) ceiling n i;
+      }

@@ -1,0 +1,143 @@
+-- State: what the reader holds of a sheet, and what it shows of it.
+--
+-- In order: the lines of the classes or labels, in words; what a state shows; a state in bounds; what a step promises.
+-- Assumes nothing.
+use Prim.Native.Nat.{ℕ, _+_, _*_, _≤_}
+use mathlib.Core.Path.{_≡_}
+use mathlib.Core.Bool.{Bool, true, false, cond}
+use mathlib.Core.List.{List, [], _∷_}
+use mathlib.Core.Option.{Option}
+use lib.Dec.{ltb}
+use lib.ListN.{length, set, take}
+use Rattle.tables.specs.Order.{pair}
+use Rattle.tables.specs.declared.Pair.{Pair}
+use Rattle.builder.specs.declared.Drawing.{Drawing}
+use Rattle.builder.specs.declared.Built.{Built}
+use Rattle.builder.specs.declared.Line.{Line}
+use Rattle.builder.specs.declared.Line.the-variants.{Added, Full}
+use Rattle.builder.specs.Builder.{view}
+use Rattle.sheet_text.specs.declared.Span.{Span}
+use Rattle.sheet_text.specs.declared.Names.{Names}
+use Rattle.sheet_text.specs.inner.Parts.{Inside, namesOf, withName, Spans}
+use Rattle.sheet_lines.specs.declared.Tables.{Tables}
+use Rattle.sheet_lines.specs.declared.State.{State}
+use Rattle.sheet_lines.specs.declared.Step.{Step}
+use Rattle.sheet_lines.specs.Reading.{Entry, Named, Reading, numbered, withLine, allow}
+
+-- ---- lines in words, three a line: the number of the table, left, right
+
+abbrev pub entry : ℕ → ℕ → ℕ → Entry
+entry k l r = record { table = k; entry = pair l r }
+
+unfoldable pub entriesOf : List ℕ → List Entry
+entriesOf [] = []
+entriesOf (k ∷ []) = []
+entriesOf (k ∷ l ∷ []) = []
+entriesOf (k ∷ l ∷ r ∷ ws) = entry k l r ∷ entriesOf ws
+
+-- the first n lines
+unfoldable pub entries : List ℕ → ℕ → List Entry
+entries ws n = entriesOf (take (3 * n) ws)
+
+-- the words with another line i
+unfoldable pub putLine : List ℕ → ℕ → ℕ → ℕ → ℕ → List ℕ
+putLine ws i k l r = set (set (set ws (3 * i) k) (3 * i + 1) l) (3 * i + 2) r
+
+-- ---- what a state shows, with the lines of the classes in one slice and those of the labels in another
+
+unfoldable pub tablesRead : List ℕ → List ℕ → Tables → Named
+tablesRead s ws t = record { names = namesOf s (t .names); lines = entries ws (t .lines) }
+
+unfoldable pub viewOf : List ℕ → List ℕ → List ℕ → State → Reading
+viewOf s ws vs x = record {
+  section = x .section;
+  opened = x .opened;
+  classes = tablesRead s ws (x .classes);
+  labels = tablesRead s vs (x .labels);
+  names = namesOf s (x .nodes);
+  nodes = view (x .drawing) .nodes;
+  edges = view (x .drawing) .edges;
+}
+
+-- ---- a state in bounds
+
+-- "Up to 16,384 bytes". A line of a class or label has at least four bytes, so that there are at most 4,096, of three words each.
+abbrev pub mostBytes : ℕ
+mostBytes = 16384
+
+abbrev pub lineWords : ℕ
+lineWords = 12288
+
+-- a state that was read from the bytes before place `at`
+pub record Fine (s : List ℕ) (at : ℕ) (x : State) : Type 0 where
+  pub section : x .section ≤ 3
+  pub classes : Spans s (x .classes .names) 32
+  pub labels : Spans s (x .labels .names) 64
+  pub nodes : Spans s (x .nodes) 12
+  pub drawn : x .drawing .n ≡ x .nodes .n
+  pub nodeRoom : length (x .drawing .nodes) ≡ 12
+  pub edgeRoom : length (x .drawing .edges) ≡ 24
+  pub fewEdges : x .drawing .e ≤ 24
+  pub lines : 4 * (x .classes .lines + x .labels .lines) ≤ at
+
+-- a line of the sheet, and a state that was read from the lines before it
+pub record Ready (s : List ℕ) (a e : ℕ) (x : State) : Type 0 where
+  pub inside : Inside s a e
+  pub short : length s ≤ mostBytes
+  pub fine : Fine s a x
+
+-- ---- steps that touch no lines
+
+unfoldable pub stepBy : Line → State → State → Step
+stepBy Added new old = record { read = true; state = new }
+stepBy Full new old = record { read = false; state = old }
+
+unfoldable pub withDrawing : Names → Drawing → State → State
+withDrawing n d x = record { section = x .section; opened = x .opened; classes = x .classes; labels = x .labels; nodes = n; drawing = d }
+
+unfoldable pub nodeStep : State → Span → Built → Step
+nodeStep x p b = stepBy (b .line) (withDrawing (withName (x .nodes) p) (b .drawing) x) x
+
+unfoldable pub edgeStep : State → Built → Step
+edgeStep x b = stepBy (b .line) (withDrawing (x .nodes) (b .drawing) x) x
+
+unfoldable pub turned : ℕ → Bool → State → State
+turned k o x = record { section = k; opened = o; classes = x .classes; labels = x .labels; nodes = x .nodes; drawing = x .drawing }
+
+unfoldable pub endStep : State → Step
+endStep x = let more = turned (x .section + 1) false x in cond (ltb (x .section) 3) (record { read = true; state = more }) (record { read = false; state = x })
+
+-- ---- what a step promises
+
+-- y has the names of x, and this one
+pub record Numbered (s name : List ℕ) (ceiling : ℕ) (x y : Names) : Type 0 where
+  pub names : namesOf s y ≡ numbered name (namesOf s x)
+  pub spans : Spans s y ceiling
+
+-- y has one line more than x
+pub record Lined (s name : List ℕ) (ceiling : ℕ) (p : Pair) (before after : List ℕ) (x y : Tables) : Type 0 where
+  pub tables : tablesRead s after y ≡ withLine name p (tablesRead s before x)
+  pub spans : Spans s (y .names) ceiling
+  pub counted : y .lines ≡ x .lines + 1
+  pub size : length after ≡ length before
+
+-- a line of the classes was read, which changes the first slice; of the labels, which changes the second; or another
+pub record ClassRead (s : List ℕ) (before after : List ℕ) (e : ℕ) (x : State) (r : Step) (reads : Reading → Option Reading) : Type 0 where
+  pub answer : (vs : List ℕ) → allow (r .read) (viewOf s after vs (r .state)) ≡ reads (viewOf s before vs x)
+  pub fine : Fine s (e + 1) (r .state)
+  pub size : length after ≡ length before
+
+pub record LabelRead (s : List ℕ) (before after : List ℕ) (e : ℕ) (x : State) (r : Step) (reads : Reading → Option Reading) : Type 0 where
+  pub answer : (ws : List ℕ) → allow (r .read) (viewOf s ws after (r .state)) ≡ reads (viewOf s ws before x)
+  pub fine : Fine s (e + 1) (r .state)
+  pub size : length after ≡ length before
+
+pub record OtherRead (s : List ℕ) (e : ℕ) (x : State) (r : Step) (reads : Reading → Option Reading) : Type 0 where
+  pub answer : (ws vs : List ℕ) → allow (r .read) (viewOf s ws vs (r .state)) ≡ reads (viewOf s ws vs x)
+  pub fine : Fine s (e + 1) (r .state)
+
+pub record LineRead (s : List ℕ) (ws ws′ vs vs′ : List ℕ) (e : ℕ) (x : State) (r : Step) (reads : Reading → Option Reading) : Type 0 where
+  pub answer : allow (r .read) (viewOf s ws′ vs′ (r .state)) ≡ reads (viewOf s ws vs x)
+  pub fine : Fine s (e + 1) (r .state)
+  pub classSize : length ws′ ≡ length ws
+  pub labelSize : length vs′ ≡ length vs

@@ -1,0 +1,52 @@
+-- Digits: a number's digits are those of its tenth, then its last one.
+--
+-- In order: digits before others; how many are enough; a number below 10, and one of more digits.
+-- Assumes nothing.
+use Prim.Native.Nat.{ℕ, zero, suc, _+_, _/_, _%_, _^_, _<_, _≤_}
+use native.Mathlib.Omega.{arith}
+use native.Mathlib.Nat.{pow-suc}
+use mathlib.Core.Path.{_≡_, refl, sym, ap, _∙_}
+use mathlib.Core.Bool.{Bool, true, false, cond}
+use mathlib.Core.List.{List, [], _∷_, _++_, append-assoc}
+use lib.Dec.{ltb}
+use borrow.Author.Tests.{lt-ltb, le-ltb}
+use Rattle.sheet_text.specs.Text.{digitsBefore, digits}
+
+-- the digits of n before `after`, by those of its tenth
+before-more : (most n : ℕ) (after : List ℕ) → 10 ≤ n → digitsBefore (suc most) n after ≡ digitsBefore most (n / 10) ((48 + n % 10) ∷ after)
+unfolding digitsBefore
+before-more most n after h = rw (le-ltb n 10 h)
+
+-- what stands after the digits stays there
+before-append : (most n : ℕ) (after : List ℕ) → digitsBefore most n after ≡ digitsBefore most n [] ++ after
+unfolding digitsBefore
+before-append zero n after = refl
+before-append (suc most) n after = by (ltb n 10) (before-append most (n / 10))
+  where
+    by : (b : Bool) → ((ds : List ℕ) → digitsBefore most (n / 10) ds ≡ digitsBefore most (n / 10) [] ++ ds) →
+        cond b ((48 + n) ∷ after) (digitsBefore most (n / 10) ((48 + n % 10) ∷ after))
+        ≡ cond b ((48 + n) ∷ []) (digitsBefore most (n / 10) ((48 + n % 10) ∷ [])) ++ after
+    by true shorter = refl
+    by false shorter =
+        shorter ((48 + n % 10) ∷ after)
+        ∙ sym (append-assoc (digitsBefore most (n / 10) []) ((48 + n % 10) ∷ []) after)
+        ∙ ap (λ (ds : List ℕ). ds ++ after) (sym (shorter ((48 + n % 10) ∷ [])))
+
+-- one more than enough gives the same
+before-enough : (most n : ℕ) (after : List ℕ) → n < 10 ^ suc most → digitsBefore (suc (suc most)) n after ≡ digitsBefore (suc most) n after
+unfolding digitsBefore
+before-enough zero n after h = let t : ltb n 10 ≡ true = lt-ltb n 10 (omega arith) in rw t
+before-enough (suc most) n after h =
+    let p = pow-suc 10 (suc most) in
+    ap (λ (ds : List ℕ). cond (ltb n 10) ((48 + n) ∷ after) ds) (before-enough most (n / 10) ((48 + n % 10) ∷ after) (omega arith))
+
+pub digits-one : (n : ℕ) → n < 10 → (48 + n) ∷ [] ≡ digits n
+unfolding digits digitsBefore
+digits-one n h = rw (lt-ltb n 10 h)
+
+pub digits-more : (n : ℕ) → 10 ≤ n → n < 2 ^ 32 → digits (n / 10) ++ ((48 + n % 10) ∷ []) ≡ digits n
+unfolding digits
+digits-more n h k =
+    ap (λ (ds : List ℕ). ds ++ ((48 + n % 10) ∷ [])) (before-enough 8 (n / 10) [] (omega arith))
+    ∙ sym (before-append 9 (n / 10) ((48 + n % 10) ∷ []))
+    ∙ sym (before-more 9 n [] h)

@@ -1,0 +1,49 @@
+-- `sheet_listing::clear` meets its contract: the bytes passed are zeros. Assumes nothing.
+use Prim.Native.Nat.{_-_}
+use native.Mathlib.Omega.{arith}
+use lib.ListN.{length}
+use Rattle.sheet_listing.proofs.Putting.{put-size}
+use Rattle.sheet_listing.proofs.Ending.{Clearing, clearing-start, clearing-more, clearing-end}
+use Rattle.sheet_listing.proofs.clear.Statement.{statement}
+use Rattle.sheet_listing.proofs.clear.Tie as tie
+
+abbrev Inv-loop : tie.InvT-loop
+Inv-loop out₀ i₀ out i = Clearing out₀ out i
+
+abbrev μ-loop : tie.MeasureT-loop
+μ-loop out₀ i₀ out i = length out₀ - i
+
+loop-holds : tie.Need-loop-holds Inv-loop μ-loop
+loop-holds c = clearing-start _
+
+slice-write-out : tie.Need-slice-write-out Inv-loop μ-loop
+slice-write-out c = c .loop-test .taken
+
+add-i : tie.Need-add-i Inv-loop μ-loop
+add-i c = omega arith
+
+loop-less : tie.Need-loop-less Inv-loop μ-loop
+loop-less c = omega (arith, put-size (c .before .loop .inv .put))
+
+loop-again : tie.Need-loop-again Inv-loop μ-loop
+loop-again c = clearing-more (c .before .loop .inv) (c .loop-test .taken)
+
+same-length : tie.Need-same-length Inv-loop μ-loop
+same-length c = put-size (c .before .loop .inv .put)
+
+returns : tie.Need-returns Inv-loop μ-loop
+returns c = clearing-end (c .before .loop .inv) (c .loop-test .left)
+
+pub clear-spec : {M : Type 1} → statement M
+clear-spec =
+    tie.close
+    (tie.spec
+    Inv-loop
+    μ-loop
+    loop-holds
+    slice-write-out
+    add-i
+    loop-less
+    loop-again
+    same-length
+    returns)

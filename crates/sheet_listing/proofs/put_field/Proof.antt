@@ -1,0 +1,20 @@
+-- `sheet_listing::put_field` meets its contract: what stands before the field, then the number. Assumes nothing.
+use borrow.Author.Needs.{needs}
+use Rattle.sheet_listing.proofs.Putting.{put-then}
+use Rattle.sheet_listing.proofs.put_field.Statement.{statement}
+use Rattle.sheet_listing.proofs.put_field.Tie as tie
+
+put-gap-requires : tie.Need-put-gap-requires
+put-gap-requires c κs = search needs
+
+put-number-requires : tie.Need-put-number-requires
+put-number-requires c κs = search needs
+
+same-length : tie.Need-same-length
+same-length c = search needs
+
+returns : tie.Need-returns
+returns c = put-then (c .before .before .before .before .before .before .put-gap .ensures) (c .before .before .put-number .ensures)
+
+pub put-field-spec : {M : Type 1} → statement M
+put-field-spec = tie.close (tie.spec put-gap-requires put-number-requires same-length returns)

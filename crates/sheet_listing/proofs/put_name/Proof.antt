@@ -1,0 +1,30 @@
+-- `sheet_listing::put_name` meets its contract: what stands before the field, then the name. Assumes nothing.
+use borrow.Author.Needs.{needs}
+use Rattle.sheet_text.specs.inner.Parts.{nameAt}
+use Rattle.sheet_listing.proofs.Putting.{put-then}
+use Rattle.sheet_listing.proofs.put_name.Statement.{statement}
+use Rattle.sheet_listing.proofs.put_name.Tie as tie
+
+mul-p : tie.Need-mul-p
+mul-p c = search needs
+
+element-copy-out-p : tie.Need-element-copy-out-p
+element-copy-out-p c = search needs
+
+put-gap-requires : tie.Need-put-gap-requires
+put-gap-requires c κs = search needs
+
+put-text-requires : tie.Need-put-text-requires
+put-text-requires c κs = let s = c .before .before .before .before .before .before .before .before in s .pre .0 .inside (s .args .i) (s .pre .1)
+
+same-length : tie.Need-same-length
+same-length c = search needs
+
+returns : tie.Need-returns
+unfolding nameAt
+returns c = put-then (c .before .before .before .before .before .before .put-gap .ensures) (c .before .before .put-text .ensures)
+
+pub put-name-spec : {M : Type 1} → statement M
+put-name-spec =
+    tie.close
+    (tie.spec mul-p element-copy-out-p put-gap-requires put-text-requires same-length returns)

@@ -1,0 +1,83 @@
+-- `sheet_listing::put_names` meets its contract: each turn passes one node, and writes its name where it is picked. Assumes nothing.
+use Prim.Native.Nat.{_-_}
+use native.Mathlib.Omega.{arith}
+use borrow.Author.Needs.{needs}
+use mathlib.Core.Path.{_≡_, refl, _∙_}
+use Rattle.builder.proofs.Builder.{roomy}
+use Rattle.sheet_listing.proofs.Putting.{put-size}
+use Rattle.sheet_listing.proofs.Picked.{Named, Naming, naming-start, naming-takes, naming-skips, naming-end}
+use Rattle.sheet_listing.proofs.put_names.Statement.{statement}
+use Rattle.sheet_listing.proofs.put_names.Tie as tie
+
+abbrev Inv-loop : tie.InvT-loop
+Inv-loop out₀ at sheet names drawing n k₀ first₀ i₀ out k first i = (Naming out₀ out at sheet names drawing first i k) × (n ≡ drawing .n)
+
+abbrev μ-loop : tie.MeasureT-loop
+μ-loop out₀ at sheet names drawing n k₀ first₀ i₀ out k first i = n - i
+
+named : (s : tie.Start Inv-loop μ-loop) → Named (s .args .sheet .now) (s .args .names) (s .args .t5)
+named s = record { spans = s .pre .0; each = s .pre .1; room = roomy (s .args .t5) (s .good .1 .1 .1 .1 .0) .nodes }
+
+loop-holds : tie.Need-loop-holds Inv-loop μ-loop
+loop-holds c = (naming-start _ _ _ _ _, refl)
+
+mul-v : tie.Need-mul-v Inv-loop μ-loop
+mul-v c = omega (arith, c .before .loop .inv .1, c .before .before .before .before .pre .0 .few, c .before .before .before .before .pre .1)
+
+element-copy-out-v : tie.Need-element-copy-out-v Inv-loop μ-loop
+element-copy-out-v c = omega (arith, c .before .loop .inv .1, c .before .before .before .before .pre .0 .few, c .before .before .before .before .pre .1)
+
+add-i : tie.Need-add-i Inv-loop μ-loop
+add-i c = omega arith
+
+put-name-requires : tie.Need-put-name-requires Inv-loop μ-loop
+put-name-requires c κs =
+    let l = c .before .before .before .before in
+    let p = l .before .before .before .before .pre in
+    (p .0, omega (arith, l .loop-test .taken, l .before .loop .inv .1, p .1))
+
+loop-less : tie.Need-loop-less Inv-loop μ-loop
+loop-less c = omega arith
+
+loop-again : tie.Need-loop-again Inv-loop μ-loop
+loop-again c =
+    let l = c .before .before .before .before .before .before .before in
+    (naming-takes (l .before .loop .inv .0) (named (l .before .before .before .before)) (omega (arith, l .loop-test .taken, l .before .loop .inv .1)) (c .before .before .before .before .if1 .taken) (c .before .before .put-name .ensures), l .before .loop .inv .1)
+
+loop-less-2 : tie.Need-loop-less-2 Inv-loop μ-loop
+loop-less-2 c = omega arith
+
+loop-again-2 : tie.Need-loop-again-2 Inv-loop μ-loop
+loop-again-2 c =
+    let l = c .before .before .before in
+    (naming-skips (l .before .loop .inv .0) (named (l .before .before .before .before)) (omega (arith, l .loop-test .taken, l .before .loop .inv .1)) (c .if1 .left), l .before .loop .inv .1)
+
+put-byte-requires : tie.Need-put-byte-requires Inv-loop μ-loop
+put-byte-requires c κs = search needs
+
+same-length : tie.Need-same-length Inv-loop μ-loop
+same-length c = c .before .before .put-byte .kept .0 ∙ put-size (c .before .before .before .before .before .loop .inv .0 .putting .put)
+
+returns : tie.Need-returns Inv-loop μ-loop
+returns c =
+    let l = c .before .before .before .before in
+    naming-end (l .before .loop .inv .0) (named (l .before .before .before .before)) (omega (arith, l .loop-test .left, l .before .loop .inv .1)) (c .before .before .put-byte .ensures)
+
+pub put-names-spec : {M : Type 1} → statement M
+put-names-spec =
+    tie.close
+    (tie.spec
+    Inv-loop
+    μ-loop
+    loop-holds
+    mul-v
+    element-copy-out-v
+    add-i
+    put-name-requires
+    loop-less
+    loop-again
+    loop-less-2
+    loop-again-2
+    put-byte-requires
+    same-length
+    returns)

@@ -1,0 +1,56 @@
+-- `sheet_listing::put_text` meets its contract: each turn writes the first of the bytes that are left. Assumes nothing.
+use Prim.Native.Nat.{_-_}
+use lib.Seq.{slice}
+use native.Mathlib.Omega.{arith}
+use borrow.Author.Needs.{needs}
+use Rattle.tables.proofs.Parts.{slice-none, slice-next}
+use Rattle.sheet_listing.proofs.Putting.{put-size, Putting, putting-start, putting-same, putting-byte, putting-end}
+use Rattle.sheet_listing.proofs.put_text.Statement.{statement}
+use Rattle.sheet_listing.proofs.put_text.Tie as tie
+
+abbrev Inv-loop : tie.InvT-loop
+Inv-loop out₀ at s a e k₀ i₀ out k i = Putting out₀ out at (slice a e s) (slice i e s) k
+
+abbrev μ-loop : tie.MeasureT-loop
+μ-loop out₀ at s a e k₀ i₀ out k i = e - i
+
+loop-holds : tie.Need-loop-holds Inv-loop μ-loop
+loop-holds c = putting-start _ _ _
+
+shared-slice-read-put-byte : tie.Need-shared-slice-read-put-byte Inv-loop μ-loop
+shared-slice-read-put-byte c = omega (arith, c .before .before .before .before .before .before .pre .ends)
+
+put-byte-requires : tie.Need-put-byte-requires Inv-loop μ-loop
+put-byte-requires c κs = search needs
+
+add-i : tie.Need-add-i Inv-loop μ-loop
+add-i c = omega arith
+
+loop-less : tie.Need-loop-less Inv-loop μ-loop
+loop-less c = omega arith
+
+loop-again : tie.Need-loop-again Inv-loop μ-loop
+loop-again c =
+    let l = c .before .before .before .before .before in
+    putting-byte (putting-same (slice-next _ _ _ (l .loop-test .taken) (l .before .before .before .before .pre .ends)) (l .before .loop .inv)) (c .before .before .put-byte .ensures)
+
+same-length : tie.Need-same-length Inv-loop μ-loop
+same-length c = put-size (c .before .loop .inv .put)
+
+returns : tie.Need-returns Inv-loop μ-loop
+returns c = putting-end (putting-same (slice-none _ _ _ (c .loop-test .left)) (c .before .loop .inv))
+
+pub put-text-spec : {M : Type 1} → statement M
+put-text-spec =
+    tie.close
+    (tie.spec
+    Inv-loop
+    μ-loop
+    loop-holds
+    shared-slice-read-put-byte
+    put-byte-requires
+    add-i
+    loop-less
+    loop-again
+    same-length
+    returns)

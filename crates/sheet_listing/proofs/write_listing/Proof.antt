@@ -1,0 +1,28 @@
+-- `sheet_listing::write_listing` meets its contract: the line of names, then the lines of the rows. Assumes nothing.
+use borrow.Author.Needs.{needs}
+use mathlib.Core.Path.{_∙_}
+use Rattle.sheet_listing.specs.Listing.{listing}
+use Rattle.sheet_listing.proofs.Putting.{put-then}
+use Rattle.sheet_listing.proofs.Ending.{finished-listed}
+use Rattle.sheet_listing.proofs.write_listing.Statement.{statement}
+use Rattle.sheet_listing.proofs.write_listing.Tie as tie
+
+put-names-requires : tie.Need-put-names-requires
+put-names-requires c κs = search needs
+
+put-rows-requires : tie.Need-put-rows-requires
+put-rows-requires c κs = search needs
+
+finish-requires : tie.Need-finish-requires
+finish-requires c κs = search needs
+
+same-length : tie.Need-same-length
+same-length c = search needs
+
+returns : tie.Need-returns
+unfolding listing
+returns c = c .before .before .finish .ensures ∙ finished-listed (put-then (c .before .before .before .before .before .before .before .before .before .before .put-names .ensures) (c .before .before .before .before .before .before .put-rows .ensures))
+
+pub write-listing-spec : {M : Type 1} → statement M
+write-listing-spec =
+    tie.close (tie.spec put-names-requires put-rows-requires finish-requires same-length returns)

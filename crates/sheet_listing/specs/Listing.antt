@@ -1,0 +1,41 @@
+-- Listing: what the sheet query prints (document 01, 'The sheet').
+--
+-- In order: a line; the listing of rows and of a refusal; the lent slice.
+-- Assumes nothing.
+use Prim.Native.Nat.{ℕ}
+use mathlib.Core.Bool.{cond}
+use mathlib.Core.List.{List, [], _∷_, _++_, map, flatMap}
+use lib.Dec.{leb}
+use lib.ListN.{length, drop, replicate}
+use Rattle.drawing.specs.declared.Node.{Node}
+use Rattle.drawing.specs.Drawing.{isPicked}
+use Rattle.sheet_text.specs.Text.{bytes, digits}
+
+-- fields with one space between them, and a line feed: "Every line ends in a line feed"
+unfoldable pub line : List (List ℕ) → List ℕ
+line [] = 10 ∷ []
+line (f ∷ []) = f ++ (10 ∷ [])
+line (f ∷ g ∷ fs) = f ++ (32 ∷ line (g ∷ fs))
+
+-- "the picked names in node order, then one row a line. No rows print the names only"
+unfoldable pub pickedNames : List (List ℕ) → List Node → List (List ℕ)
+pickedNames [] vs = []
+pickedNames (n ∷ ns) [] = []
+pickedNames (n ∷ ns) (v ∷ vs) = let rest = pickedNames ns vs in cond (isPicked v) (n ∷ rest) rest
+
+unfoldable pub listing : List (List ℕ) → List (List ℕ) → List ℕ
+listing names found = line names ++ flatMap (λ r. line (map digits r)) found
+
+-- "A refusal prints `refused`, number, place on one line"
+unfoldable pub refusal : ℕ → ℕ → List ℕ
+refusal n p = line (bytes "refused" ∷ digits n ∷ digits p ∷ [])
+
+-- "One that does not fit gives length 0 and a zeroed slice; otherwise the bytes after the listing are untouched"
+pub record Listed : Type 0 where
+  pub length′ : ℕ
+  pub buffer : List ℕ
+
+unfoldable pub listedIn : List ℕ → List ℕ → Listed
+listedIn text buffer =
+    cond (leb (length text) (length buffer)) (record { length′ = length text; buffer = text ++ drop (length text) buffer })
+    (record { length′ = 0; buffer = replicate (length buffer) 0 })

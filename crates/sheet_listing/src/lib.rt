@@ -1,0 +1,194 @@
+// The listing of a query's rows, or of a refusal, in a lent slice of bytes. A function that writes takes the place where its text starts, and
+// returns the place after it. Bytes past the end of the slice are left out, and from there on the place stays past the end.
+
+use builder::Drawing;
+use sheet_text::Names;
+ghost use mathlib.Core.Path.{_≡_};
+ghost use Prim.Native.Nat.{_+_, _<_, _≤_, min};
+ghost use mathlib.Core.List.{[], _∷_, _++_, map};
+ghost use lib.ListN.{length, getD, take, replicate};
+ghost use lib.Seq.{slice};
+ghost use Rattle.builder.specs.Builder.{view};
+ghost use Rattle.sheet_text.specs.Text.{digits};
+ghost use Rattle.sheet_text.specs.inner.Parts.{Inside, span, nameAt, namesOf, Spans};
+ghost use Rattle.sheet_listing.specs.Listing.{line, pickedNames, listing, refusal, listedIn};
+ghost use Rattle.sheet_listing.specs.inner.Written.{Put, gap, rowsOf, rowLines, listed, finished};
+
+// One byte.
+fn put_byte(out: &mut [u8], at: usize, b: u8) -> usize
+    ensures { λ r. ⌜ Put (now (out .entry)) (now (out .exit)) at (b ∷ []) r ⌝ }
+{
+    if at < out.len() {
+        out[at] = b;
+        return at + 1;
+    }
+    out.len() + 1
+}
+
+// The bytes a to e of another slice.
+fn put_text(out: &mut [u8], at: usize, s: &[u8], a: usize, e: usize) -> usize
+    requires { ⌜ Inside (now s) a e ⌝ }
+    ensures { λ r. ⌜ Put (now (out .entry)) (now (out .exit)) at (slice a e (now (s .entry))) r ⌝ }
+{
+    let mut k = at;
+    let mut i = a;
+    while i < e {
+        k = put_byte(out, k, s[i]);
+        i += 1;
+    }
+    k
+}
+
+// The decimal digits of a number.
+fn put_number(out: &mut [u8], at: usize, n: u32) -> usize
+    ensures { λ r. ⌜ Put (now (out .entry)) (now (out .exit)) at (digits n) r ⌝ }
+{
+    if n < 10 {
+        return put_byte(out, at, 48 + n as u8);
+    }
+    let k = put_number(out, at, n / 10);
+    put_byte(out, k, 48 + (n % 10) as u8)
+}
+
+// What stands before a field: a space, but for the first.
+fn put_gap(out: &mut [u8], at: usize, first: bool) -> usize
+    ensures { λ r. ⌜ Put (now (out .entry)) (now (out .exit)) at (gap first) r ⌝ }
+{
+    if first {
+        return at;
+    }
+    put_byte(out, at, 32)
+}
+
+// The name with this number, as a field.
+fn put_name(out: &mut [u8], at: usize, sheet: &[u8], names: Names, i: usize, first: bool) -> usize
+    requires { ⌜ Spans (now sheet) names 12 ⌝ ∗ ⌜ i < names .n ⌝ }
+    ensures { λ r. ⌜ Put (now (out .entry)) (now (out .exit)) at (gap first ++ nameAt (now (sheet .entry)) (getD (names .spans) i (span 0 0))) r ⌝ }
+{
+    let p = names.spans[i];
+    let k = put_gap(out, at, first);
+    put_text(out, k, sheet, p.start, p.end)
+}
+
+// The line of the picked nodes' names.
+fn put_names(out: &mut [u8], at: usize, sheet: &[u8], names: Names, drawing: Drawing) -> usize
+    requires { ⌜ Spans (now sheet) names 12 ⌝ ∗ ⌜ names .n ≡ drawing .n ⌝ }
+    ensures { λ r. ⌜ Put (now (out .entry)) (now (out .exit)) at (line (pickedNames (namesOf (now (sheet .entry)) names) (view drawing .nodes))) r ⌝ }
+{
+    let n = drawing.n;
+    let mut k = at;
+    let mut first = true;
+    let mut i = 0;
+    while i < n {
+        let j = i;
+        let v = drawing.nodes[j];
+        i += 1;
+        if v.pick == 1 {
+            k = put_name(out, k, sheet, names, j, first);
+            first = false;
+        }
+    }
+    put_byte(out, k, 10)
+}
+
+// A number, as a field.
+fn put_field(out: &mut [u8], at: usize, n: u32, first: bool) -> usize
+    ensures { λ r. ⌜ Put (now (out .entry)) (now (out .exit)) at (gap first ++ digits n) r ⌝ }
+{
+    let k = put_gap(out, at, first);
+    put_number(out, k, n)
+}
+
+// The line of one row, whose words are a to e.
+fn put_row(out: &mut [u8], at: usize, rows: &[u32], a: usize, e: usize) -> usize
+    requires { ⌜ Inside (now rows) a e ⌝ }
+    ensures { λ r. ⌜ Put (now (out .entry)) (now (out .exit)) at (line (map digits (slice a e (now (rows .entry))))) r ⌝ }
+{
+    let mut end = at;
+    let mut i = a;
+    while i < e {
+        end = put_field(out, end, rows[i], i == a);
+        i += 1;
+    }
+    put_byte(out, end, 10)
+}
+
+// Where the row ends that starts at word i.
+fn row_end(i: usize, picks: usize, extent: usize) -> usize
+    requires { ⌜ i ≤ extent ⌝ }
+    ensures { λ r. ⌜ r ≡ min (i + picks) extent ⌝ }
+{
+    if extent - i < picks {
+        return extent;
+    }
+    i + picks
+}
+
+// The lines of the rows.
+fn put_rows(out: &mut [u8], at: usize, rows: &[u32], extent: usize, picks: usize) -> usize
+    requires { ⌜ 1 ≤ picks ⌝ ∗ ⌜ extent ≤ length (now rows) ⌝ }
+    ensures { λ r. ⌜ Put (now (out .entry)) (now (out .exit)) at (rowLines (rowsOf picks (take extent (now (rows .entry))))) r ⌝ }
+{
+    let mut k = at;
+    let mut i = 0;
+    while i < extent {
+        let e = row_end(i, picks, extent);
+        k = put_row(out, k, rows, i, e);
+        i = e;
+    }
+    k
+}
+
+// Zeros throughout.
+fn clear(out: &mut [u8])
+    ensures { λ r. ⌜ now (out .exit) ≡ replicate (length (now (out .entry))) 0 ⌝ }
+{
+    let mut i = 0;
+    while i < out.len() {
+        out[i] = 0;
+        i += 1;
+    }
+}
+
+// The length of the listing that ends before `at`; 0, with the slice zeroed, where it does not fit.
+fn finish(out: &mut [u8], at: usize) -> usize
+    ensures { λ r. ⌜ listed r (now (out .exit)) ≡ finished at (now (out .entry)) ⌝ }
+{
+    if at <= out.len() {
+        return at;
+    }
+    clear(out);
+    0
+}
+
+// Writes the listing of some rows: the names of the picked nodes, then the rows, which are the first `extent` words, `picks` to a row.
+// Returns its length; 0, with the slice zeroed, where it does not fit.
+pub fn write_listing(
+    out: &mut [u8],
+    sheet: &[u8],
+    names: Names,
+    drawing: Drawing,
+    rows: &[u32],
+    extent: usize,
+    picks: usize,
+) -> usize
+    requires { ⌜ Spans (now sheet) names 12 ⌝ ∗ ⌜ names .n ≡ drawing .n ⌝ ∗ ⌜ 1 ≤ picks ⌝ ∗ ⌜ extent ≤ length (now rows) ⌝ }
+    ensures { λ r. ⌜ listed r (now (out .exit))
+        ≡ listedIn (listing (pickedNames (namesOf (now (sheet .entry)) names) (view drawing .nodes)) (rowsOf picks (take extent (now (rows .entry))))) (now (out .entry)) ⌝ }
+{
+    let k = put_names(out, 0, sheet, names, drawing);
+    let end = put_rows(out, k, rows, extent, picks);
+    finish(out, end)
+}
+
+// Writes the listing of a refusal, in the same way.
+pub fn write_refusal(out: &mut [u8], number: u32, place: u32) -> usize
+    ensures { λ r. ⌜ listed r (now (out .exit)) ≡ listedIn (refusal number place) (now (out .entry)) ⌝ }
+{
+    let word = b"refused";
+    let k = put_text(out, 0, word, 0, 7);
+    let n = put_field(out, k, number, false);
+    let p = put_field(out, n, place, false);
+    let end = put_byte(out, p, 10);
+    finish(out, end)
+}

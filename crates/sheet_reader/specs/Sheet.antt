@@ -1,0 +1,62 @@
+-- Sheet: the words of a feed and of a drawing that a sheet gives, or 14 with its line (document 01, 'The sheet').
+--
+-- In order: all lines; the words.
+-- Assumes nothing.
+use Prim.Native.Nat.{ℕ, _+_}
+use mathlib.Core.Bool.{_&&_, cond}
+use mathlib.Core.List.{List, [], _∷_, _++_, map, flatMap}
+use mathlib.Core.Option.{Option, none, some}
+use lib.Dec.{eqb, leb}
+use lib.ListN.{length}
+use Rattle.tables.specs.Lists.{keep, below}
+use Rattle.tables.specs.declared.Pair.{Pair}
+use Rattle.sheet_text.specs.Text.{split}
+use Rattle.sheet_lines.specs.Reading.{Entry, Named, Reading, nothing, readLine}
+
+-- ---- all lines
+
+-- what a sheet gives: what was read, or the line of its first breach
+pub data Outcome : Type 0 where
+  read : Reading → Outcome
+  breach : ℕ → Outcome
+
+-- "a missing line counts as the one after the last": the four sections must have been opened
+unfoldable pub finish : ℕ → Reading → Outcome
+finish at r = let whole = eqb (r .section) 3 && r .opened in cond whole (read r) (breach at)
+
+-- The lines from line number `at` on, the last of which has no line feed behind it and must be empty.
+unfoldable pub continue : ℕ → Option Reading → (Reading → Outcome) → Outcome
+continue at none rest = breach at
+continue at (some r) rest = rest r
+
+unfoldable pub endsAt : ℕ → Reading → List ℕ → Outcome
+endsAt at r [] = finish at r
+endsAt at r (b ∷ bs) = breach at
+
+unfoldable pub readLines : ℕ → Reading → List ℕ → List (List ℕ) → Outcome
+readLines at r line [] = endsAt at r line
+readLines at r line (next ∷ lines) = continue at (readLine r line) (λ r′. readLines (at + 1) r′ next lines)
+
+-- "a sheet too long is 14 at 0"
+unfoldable pub readSheet : List ℕ → Outcome
+readSheet sheet =
+    let p = split 10 sheet in
+    let all = readLines 1 nothing (p .first) (p .rest) in
+    cond (leb (length sheet) 16384) all (breach 0)
+
+-- ---- the words
+
+unfoldable pub linesOf : ℕ → List Entry → List Pair
+linesOf k lines = map (λ x. x .entry) (keep (λ x. eqb (x .table) k) lines)
+
+unfoldable pub tablesOf : Named → List (List Pair)
+tablesOf t = map (λ k. linesOf k (t .lines)) (below (length (t .names)))
+
+unfoldable pub feedWords : Reading → List ℕ
+feedWords r =
+    let tables = tablesOf (r .classes) ++ tablesOf (r .labels) in
+    length (r .classes .names) ∷ length (r .labels .names) ∷ (map length tables ++ flatMap (flatMap (λ p. p .left ∷ p .right ∷ [])) tables)
+
+unfoldable pub drawingWords : Reading → List ℕ
+drawingWords r =
+    length (r .nodes) ∷ length (r .edges) ∷ (flatMap (λ v. v .class ∷ v .pick ∷ []) (r .nodes) ++ flatMap (λ e. e .label ∷ e .source ∷ e .target ∷ []) (r .edges))

@@ -1,0 +1,55 @@
+-- `sheet_text::fields_of` meets its contract: three cuts show how many fields there are. Assumes nothing.
+use Rattle.sheet_text.proofs.Parts.{one-field, two-fields, three-fields, more-fields}
+use borrow.Author.Needs.{needs}
+use native.Mathlib.Omega.{arith}
+use Rattle.sheet_text.proofs.fields_of.Statement.{statement}
+use Rattle.sheet_text.proofs.fields_of.Tie as tie
+
+cut-requires : tie.Need-cut-requires
+cut-requires c κs = search needs
+
+returns : tie.Need-returns
+returns c = one-field (c .before .cut .ensures) (c .if1 .taken)
+
+add-cut : tie.Need-add-cut
+add-cut c = omega (arith, c .before .cut .ensures .upTo)
+
+cut-requires-2 : tie.Need-cut-requires-2
+cut-requires-2 c κs = omega (arith, c .before .cut .ensures .upTo)
+
+returns-2 : tie.Need-returns-2
+returns-2 c =
+    let l = c .before .before in
+    two-fields (l .before .cut .ensures) (omega (arith, l .before .cut .ensures .upTo)) (c .before .cut2 .ensures) (c .if2 .taken)
+
+add-cut-2 : tie.Need-add-cut-2
+add-cut-2 c = omega (arith, c .before .cut2 .ensures .upTo)
+
+cut-requires-3 : tie.Need-cut-requires-3
+cut-requires-3 c κs = omega (arith, c .before .cut2 .ensures .upTo)
+
+returns-3 : tie.Need-returns-3
+returns-3 c =
+    let k = c .before .before in
+    let l = k .before .before in
+    three-fields (l .before .cut .ensures) (omega (arith, l .before .cut .ensures .upTo)) (k .before .cut2 .ensures) (omega (arith, k .before .cut2 .ensures .upTo)) (c .before .cut3 .ensures) (c .if3 .taken)
+
+returns-4 : tie.Need-returns-4
+returns-4 c =
+    let k = c .before .before in
+    let l = k .before .before in
+    more-fields (l .before .cut .ensures) (omega (arith, l .before .cut .ensures .upTo)) (k .before .cut2 .ensures) (omega (arith, k .before .cut2 .ensures .upTo)) (c .before .cut3 .ensures) (omega (arith, c .before .cut3 .ensures .upTo))
+
+pub fields-of-spec : {M : Type 1} → statement M
+fields-of-spec =
+    tie.close
+    (tie.spec
+    cut-requires
+    returns
+    add-cut
+    cut-requires-2
+    returns-2
+    add-cut-2
+    cut-requires-3
+    returns-3
+    returns-4)

@@ -1,0 +1,46 @@
+-- `sheet_text::is_number` meets its contract. Assumes nothing.
+use mathlib.Core.Path.{_∙_}
+use Rattle.sheet_text.proofs.Words.{no-number, long-number, zero-number, number-by-digits}
+use borrow.Author.Needs.{needs}
+use native.Mathlib.Omega.{arith}
+use Rattle.sheet_text.proofs.is_number.Statement.{statement}
+use Rattle.sheet_text.proofs.is_number.Tie as tie
+
+returns : tie.Need-returns
+returns c = no-number _ (c .before .before .args .a) _ (c .before .before .pre .ends) (omega arith)
+
+sub-if2 : tie.Need-sub-if2
+sub-if2 c = search needs
+
+returns-2 : tie.Need-returns-2
+returns-2 c = long-number _ _ _ (c .before .before .before .pre .ends) (c .if2 .taken)
+
+shared-slice-read-if3 : tie.Need-shared-slice-read-if3
+shared-slice-read-if3 c = search needs
+
+sub-result : tie.Need-sub-result
+sub-result c = search needs
+
+returns-3 : tie.Need-returns-3
+returns-3 c = zero-number _ _ _ (c .before .before .before .before .before .pre .ends) (omega arith) (c .if3 .taken)
+
+all-within-requires : tie.Need-all-within-requires
+all-within-requires c κs = search needs
+
+returns-4 : tie.Need-returns-4
+returns-4 c =
+    let i = c .before .before .before in
+    c .all-within .ensures ∙ number-by-digits _ _ _ (i .before .before .before .pre .ends) (omega arith) (i .if2 .left) (c .before .if3 .left)
+
+pub is-number-spec : {M : Type 1} → statement M
+is-number-spec =
+    tie.close
+    (tie.spec
+    returns
+    sub-if2
+    returns-2
+    shared-slice-read-if3
+    sub-result
+    returns-3
+    all-within-requires
+    returns-4)

@@ -1,0 +1,63 @@
+-- `sheet_text::value_of` meets its contract. The loop's invariant: n is the value of the digits passed. Assumes nothing.
+use Prim.Native.Nat.{_-_}
+use Rattle.sheet_text.proofs.Words.{Valuing, value-starts, value-small, digit, value-goes-on, value-ends}
+use native.Mathlib.Omega.{arith}
+use Rattle.sheet_text.proofs.value_of.Statement.{statement}
+use Rattle.sheet_text.proofs.value_of.Tie as tie
+
+abbrev Inv-loop : tie.InvT-loop
+Inv-loop s a e n₀ i₀ n i = Valuing s a e n i
+
+abbrev μ-loop : tie.MeasureT-loop
+μ-loop s a e n₀ i₀ n i = e - i
+
+loop-holds : tie.Need-loop-holds Inv-loop μ-loop
+loop-holds c = value-starts _ _ _ (c .pre .0) (c .pre .1)
+
+mul-n : tie.Need-mul-n Inv-loop μ-loop
+mul-n c = let v = value-small (c .before .loop .inv) (c .before .before .pre .0 .ends) in omega arith
+
+shared-slice-read-n : tie.Need-shared-slice-read-n Inv-loop μ-loop
+shared-slice-read-n c = omega arith
+
+sub-n : tie.Need-sub-n Inv-loop μ-loop
+sub-n c = let l = c .before in let d = digit (l .before .loop .inv) (l .before .before .pre .0 .ends) (l .loop-test .taken) in omega (arith, d .0)
+
+cast-n : tie.Need-cast-n Inv-loop μ-loop
+cast-n c = let l = c .before in let d = digit (l .before .loop .inv) (l .before .before .pre .0 .ends) (l .loop-test .taken) in omega (arith, d .1)
+
+add-n : tie.Need-add-n Inv-loop μ-loop
+add-n c =
+    let l = c .before in
+    let v = value-small (l .before .loop .inv) (l .before .before .pre .0 .ends) in
+    let d = digit (l .before .loop .inv) (l .before .before .pre .0 .ends) (l .loop-test .taken) in
+    omega (arith, d .1)
+
+add-i : tie.Need-add-i Inv-loop μ-loop
+add-i c = omega arith
+
+loop-less : tie.Need-loop-less Inv-loop μ-loop
+loop-less c = omega arith
+
+loop-again : tie.Need-loop-again Inv-loop μ-loop
+loop-again c = let l = c .before in value-goes-on (l .before .loop .inv) (l .before .before .pre .0 .ends) (l .loop-test .taken)
+
+returns : tie.Need-returns Inv-loop μ-loop
+returns c = value-ends (c .before .loop .inv) (c .before .before .pre .0 .ends) (c .loop-test .left)
+
+pub value-of-spec : {M : Type 1} → statement M
+value-of-spec =
+    tie.close
+    (tie.spec
+    Inv-loop
+    μ-loop
+    loop-holds
+    mul-n
+    shared-slice-read-n
+    sub-n
+    cast-n
+    add-n
+    add-i
+    loop-less
+    loop-again
+    returns)
