@@ -1,1 +1,3 @@
-pub mod Said
+pub mod Refusing
+pub mod Saying
+pub mod Verdict

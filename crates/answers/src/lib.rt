@@ -1,125 +1,84 @@
-// The number and the place of each answer, as document 01 has them.
+// Answers: every outcome of a call, once. A new refusal is a line of the enum, a line of `verdictOf` and a line of `number_and_place`.
 
-use algebra::InstructionCheck;
-use drawing::DrawingCheck;
-use feed::FeedCheck;
-use run::RunCheck;
-use translate::TranslationCheck;
-ghost use Rattle.feed.specs.Answers.{feedVerdict};
-ghost use Rattle.drawing.specs.Answers.{drawingVerdict};
-ghost use Rattle.algebra.specs.Answers.{instructionVerdict};
-ghost use Rattle.run.specs.Answers.{runCheckVerdict};
-ghost use Rattle.translate.specs.Answers.{translationVerdict};
-ghost use Rattle.answers.specs.Says.{Says};
+ghost use mathlib.Core.Path.{_≡_};
+ghost use Rattle.answers.specs.Verdict.{isAccepted, Says};
+ghost use Rattle.answers.specs.Answers.{verdictOf};
 
-// Number and place of a feed's check.
-pub fn say_feed(answer: FeedCheck, place: &mut u32) -> u32
-    ensures { λ r. ⌜ Says (feedVerdict answer) r (now (place .exit)) ⌝ }
+// How a call ends: each refusal has its number in document 01 and the values that it gives there.
+pub enum Answer {
+    // 0: accepted.
+    Accepted,
+    // 1: the feed has fewer than 2 words, fewer than 2 + C + L, or not exactly the length that the counts give.
+    FeedLength,
+    // 2: C, L or a count, the word at this place, is over its ceiling.
+    Ceiling(u32),
+    // 3: the pair at this place has a value above 65,535, or is not above the one before it in its table.
+    Ascent(u32),
+    // 4: the class pair at this place has unequal sides.
+    Sides(u32),
+    // 5: the drawing has fewer than 2 words, too few or too many nodes or edges, or another length than these give.
+    DrawingLength,
+    // 6: a class, a label or a node that does not exist, or a pick above 1, at this place.
+    Missing(u32),
+    // 7: no node is picked.
+    Unpicked,
+    // 8: no instruction, more than 1,024, or a part of one.
+    ListLength,
+    // 9: this instruction has an unknown kind or an operand that it may not have.
+    Invalid(u32),
+    // 10: there is no room for this register.
+    Full(u32),
+    // 11: this register has more than 65,536 pairs.
+    Large(u32),
+    // 12: the row slice is too short for the rows.
+    TooMany,
+    // 13: the list is too short for so many instructions.
+    Short(u32),
+    // 14: the sheet has a breach at this line.
+    Breach(u32),
+}
+
+// Whether the answer accepts.
+pub fn accepts(answer: Answer) -> bool
+    ensures { λ r. ⌜ r ≡ isAccepted (verdictOf answer) ⌝ }
 {
     match answer {
-        FeedCheck::Accepted => {
-            *place = 0;
-            0
-        }
-        FeedCheck::Length => {
-            *place = 0;
-            1
-        }
-        FeedCheck::Ceiling(p) => {
-            *place = p;
-            2
-        }
-        FeedCheck::Ascent(p) => {
-            *place = p;
-            3
-        }
-        FeedCheck::Sides(p) => {
-            *place = p;
-            4
-        }
+        Answer::Accepted => true,
+        _ => false,
     }
 }
 
-// Number and place of a drawing's check.
-pub fn say_drawing(answer: DrawingCheck, place: &mut u32) -> u32
-    ensures { λ r. ⌜ Says (drawingVerdict answer) r (now (place .exit)) ⌝ }
+// A number and a place.
+pub struct Said(pub u32, pub u32);
+
+// The number and the place of an answer.
+pub fn number_and_place(answer: Answer) -> Said
+    ensures { λ r. ⌜ Says (verdictOf answer) (r .0) (r .1) ⌝ }
 {
     match answer {
-        DrawingCheck::Accepted => {
-            *place = 0;
-            0
-        }
-        DrawingCheck::Feed(f) => say_feed(f, place),
-        DrawingCheck::Length => {
-            *place = 0;
-            5
-        }
-        DrawingCheck::Missing(p) => {
-            *place = p;
-            6
-        }
-        DrawingCheck::Unpicked => {
-            *place = 0;
-            7
-        }
+        Answer::Accepted => Said(0, 0),
+        Answer::FeedLength => Said(1, 0),
+        Answer::Ceiling(p) => Said(2, p),
+        Answer::Ascent(p) => Said(3, p),
+        Answer::Sides(p) => Said(4, p),
+        Answer::DrawingLength => Said(5, 0),
+        Answer::Missing(p) => Said(6, p),
+        Answer::Unpicked => Said(7, 0),
+        Answer::ListLength => Said(8, 0),
+        Answer::Invalid(i) => Said(9, i),
+        Answer::Full(i) => Said(10, i),
+        Answer::Large(i) => Said(11, i),
+        Answer::TooMany => Said(12, 0),
+        Answer::Short(n) => Said(13, n),
+        Answer::Breach(line) => Said(14, line),
     }
 }
 
-// Number and place of an instruction list's check.
-pub fn say_list(answer: InstructionCheck, place: &mut u32) -> u32
-    ensures { λ r. ⌜ Says (instructionVerdict answer) r (now (place .exit)) ⌝ }
+// Says an answer: gives its number, and its place behind the pointer.
+pub fn say(answer: Answer, place: &mut u32) -> u32
+    ensures { λ r. ⌜ Says (verdictOf answer) r (now (place .exit)) ⌝ }
 {
-    match answer {
-        InstructionCheck::Accepted => {
-            *place = 0;
-            0
-        }
-        InstructionCheck::Feed(f) => say_feed(f, place),
-        InstructionCheck::Length => {
-            *place = 0;
-            8
-        }
-        InstructionCheck::Invalid(i) => {
-            *place = i;
-            9
-        }
-    }
-}
-
-// Number and place of a run.
-pub fn say_run(answer: RunCheck, place: &mut u32) -> u32
-    ensures { λ r. ⌜ Says (runCheckVerdict answer) r (now (place .exit)) ⌝ }
-{
-    match answer {
-        RunCheck::Finished => {
-            *place = 0;
-            0
-        }
-        RunCheck::List(l) => say_list(l, place),
-        RunCheck::Full(i) => {
-            *place = i;
-            10
-        }
-        RunCheck::Large(i) => {
-            *place = i;
-            11
-        }
-    }
-}
-
-// Number and place of a translation.
-pub fn say_translation(answer: TranslationCheck, place: &mut u32) -> u32
-    ensures { λ r. ⌜ Says (translationVerdict answer) r (now (place .exit)) ⌝ }
-{
-    match answer {
-        TranslationCheck::Done(_) => {
-            *place = 0;
-            0
-        }
-        TranslationCheck::Drawing(d) => say_drawing(d, place),
-        TranslationCheck::Short(n) => {
-            *place = n;
-            13
-        }
-    }
+    let s = number_and_place(answer);
+    *place = s.1;
+    s.0
 }

@@ -11,7 +11,7 @@ use native.Mathlib.Omega.{arith}
 use lib.Dec.{leb}
 use types.Run.{OneOf}
 use denote.Enum.Declared.{tagOf}
-use Rattle.tables.specs.Verdict.{Verdict, accepted, refused, unless, _then_, isAccepted}
+use Rattle.answers.specs.Verdict.{Verdict, accepted, refused, unless, _then_, isAccepted}
 use Rattle.feed.specs.Feed.{checkCounts}
 use Rattle.feed.specs.Answers.{feedVerdict}
 use Rattle.feed.specs.inner.Parts.{countsFound}

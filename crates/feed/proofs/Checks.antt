@@ -12,10 +12,10 @@ use native.Mathlib.Omega.{arith}
 use lib.Dec.{eqb, ltb}
 use lib.ListN.{length, getD, take, drop, drop-of-length-le}
 use borrow.Author.Tests.{lt-ltb, le-ltb, lt-leb, le-leb, eq-eqb, ne-eqb}
-use Rattle.tables.specs.Verdict.{Verdict, accepted, refused, unless, _then_}
+use Rattle.answers.specs.Verdict.{Verdict, accepted, refused, unless, _then_}
 use Rattle.tables.specs.Lists.{total}
 use Rattle.tables.proofs.Tests.{leb-is}
-use Rattle.tables.proofs.Verdict.{then-accepted, unless-accepted}
+use Rattle.answers.proofs.Verdict.{then-accepted, unless-accepted}
 use Rattle.feed.specs.Feed.{classCount, labelCount, tableCount, counts, pairsOf, cut, tables, checkCounts, checkPairs, checkTables, checkFeed}
 use Rattle.feed.specs.inner.Parts.{countsFound, Exact}
 use Rattle.feed.specs.declared.Counts.{Counts}

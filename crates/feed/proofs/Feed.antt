@@ -17,11 +17,11 @@ use lib.Dec.{ltb}
 use Rattle.tables.specs.declared.Pair.{Pair}
 use Rattle.tables.specs.Lists.{_∈_, total}
 use Rattle.tables.specs.Order.{Ascending, none, more, Table, pair, comparePair}
-use Rattle.tables.specs.Verdict.{accepted}
+use Rattle.answers.specs.Verdict.{accepted}
 use Rattle.tables.proofs.Tests.{both-true, eqb-is, leb-is, ltb-is}
 use Rattle.tables.proofs.Members.{At, first, later, getD-at, at-in}
 use Rattle.tables.proofs.Orders.{is-less, pairs}
-use Rattle.tables.proofs.Verdict.{then-accepted, unless-accepted}
+use Rattle.answers.proofs.Verdict.{then-accepted, unless-accepted}
 use Rattle.feed.specs.Feed.{classCount, labelCount, tableCount, counts, body, pairsOf, tables, cut, classTable, labelTable, checkCounts, above, checkPair, checkPairs, checkTables, checkFeed}
 
 -- pairs that were checked

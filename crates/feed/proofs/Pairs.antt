@@ -13,7 +13,7 @@ use lib.ListN.{length, take, drop}
 use borrow.Author.Tests.{lt-ltb, le-ltb}
 use Rattle.tables.specs.declared.Pair.{Pair}
 use Rattle.tables.specs.Order.{comparePair, isLess, next}
-use Rattle.tables.specs.Verdict.{Verdict, accepted, refused, unless, _then_}
+use Rattle.answers.specs.Verdict.{Verdict, accepted, refused, unless, _then_}
 use Rattle.tables.proofs.Orders.{compare-lt, compare-eq, compare-gt}
 use Rattle.feed.specs.Feed.{pairsOf, above, checkPair, checkPairs}
 use Rattle.feed.specs.inner.Parts.{pairFrom, before}

@@ -1,6 +1,6 @@
 -- Answers: what the answers of the code say in the terms of document 01.
 -- Assumes nothing.
-use Rattle.tables.specs.Verdict.{Verdict, accepted, refused}
+use Rattle.answers.specs.Verdict.{Verdict, accepted, refused}
 use Rattle.feed.specs.declared.FeedCheck.{FeedCheck}
 use Rattle.feed.specs.declared.FeedCheck.the-variants.{Accepted, Length, Ceiling, Ascent, Sides}
 

@@ -10,7 +10,7 @@ use lib.ListN.{length, getD, take, drop}
 use Rattle.tables.specs.declared.Pair.{Pair}
 use Rattle.tables.specs.Order.{Table, pair, comparePair, isLess}
 use Rattle.tables.specs.Lists.{total}
-use Rattle.tables.specs.Verdict.{Verdict, accepted, unless, _then_}
+use Rattle.answers.specs.Verdict.{Verdict, accepted, unless, _then_}
 
 -- ---- the parts
 

@@ -8,7 +8,7 @@ ghost use lib.Dec.{leb};
 ghost use lib.ListN.{length, take, drop, getD};
 ghost use Rattle.tables.specs.Order.{comparePair, isLess};
 ghost use Rattle.tables.specs.Lists.{total};
-ghost use Rattle.tables.specs.Verdict.{accepted};
+ghost use Rattle.answers.specs.Verdict.{accepted};
 ghost use Rattle.feed.specs.Feed.{classCount, labelCount, tableCount, counts, tables, classTable, labelTable, pairsOf, above, checkCounts, checkPair, checkPairs, checkTables, checkFeed};
 ghost use Rattle.feed.specs.Answers.{feedVerdict};
 ghost use Rattle.feed.specs.inner.Parts.{pairFrom, before, countsFound, Exact, SpanOf};

@@ -7,7 +7,7 @@ use mathlib.Core.Path.{_≡_}
 use mathlib.Core.List.{List}
 use Rattle.translator.specs.Translation.{Translated}
 use Rattle.query.specs.Query.{Answer}
-use Rattle.answers.specs.Says.{Says}
+use Rattle.answers.specs.Verdict.{Says}
 
 -- number and place, every word of the list, and how many instructions it has
 pub record Translates (t : Translated) (n p : ℕ) (list₁ : List ℕ) (count : ℕ) : Type 0 where

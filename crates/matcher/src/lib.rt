@@ -14,7 +14,7 @@ ghost use Rattle.translator.specs.Translation.{translate};
 ghost use Rattle.translate.specs.Answers.{instructionsIn};
 ghost use Rattle.query.specs.Query.{query};
 ghost use Rattle.query.specs.Answers.{slices};
-ghost use Rattle.answers.specs.Says.{Says};
+ghost use Rattle.answers.specs.Verdict.{Says};
 ghost use Rattle.sheet_listing.specs.inner.Written.{listed};
 ghost use Rattle.sheet.specs.SheetQuery.{sheetQuery};
 ghost use Rattle.matcher.specs.Calls.{Translates, Answers};

@@ -15,7 +15,7 @@ use lib.ListN.{length, getD, take, drop, length-append, length-map, length-take,
 use lib.Seq.{take-all, take-append-seam}
 use borrow.Author.Tests.{lt-ltb, le-ltb, le-leb}
 use Rattle.tables.specs.Lists.{_∈_}
-use Rattle.tables.specs.Verdict.{Verdict, accepted, refused}
+use Rattle.answers.specs.Verdict.{Verdict, accepted, refused}
 use Rattle.tables.proofs.Members.{in-map, in-at, at-less, at-getD}
 use Rattle.tables.proofs.Tests.{decide, leb-is}
 use Rattle.feed.specs.Feed.{checkFeed}

@@ -12,10 +12,10 @@ use lib.ListN.{length, take, drop}
 use lib.Seq.{take-append-seam}
 use Rattle.tables.specs.Lists.{_∈_}
 use Rattle.tables.specs.Order.{Table}
-use Rattle.tables.specs.Verdict.{Verdict, accepted, refused, number, location, _then_, isAccepted}
+use Rattle.answers.specs.Verdict.{Verdict, accepted, refused, number, location, _then_, isAccepted}
 use Rattle.tables.proofs.Members.{any-true, in-keep}
 use Rattle.tables.proofs.Tests.{true-not-false, leb-is}
-use Rattle.tables.proofs.Verdict.{accepted-is, then-accepted, unless-accepted}
+use Rattle.answers.proofs.Verdict.{accepted-is, then-accepted, unless-accepted}
 use Rattle.feed.proofs.Feed.{class-sides}
 use Rattle.drawing.specs.declared.Node.{Node}
 use Rattle.drawing.specs.Drawing.{Pattern, patternOf, nodeCount, isPicked, checkLength, checkDrawing}

@@ -5,7 +5,7 @@
 use Prim.Native.Nat.{ℕ, _*_}
 use mathlib.Core.List.{List}
 use lib.ListN.{replicate}
-use Rattle.tables.specs.Verdict.{Verdict, accepted, refused}
+use Rattle.answers.specs.Verdict.{Verdict, accepted, refused}
 use Rattle.drawing.specs.Drawing.{patternOf}
 use Rattle.drawing.specs.Embeddings.{rows}
 use Rattle.algebra.specs.Instructions.{instructionCeiling}

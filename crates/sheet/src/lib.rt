@@ -18,7 +18,7 @@ use translate::accepts;
 ghost use mathlib.Core.Path.{_≡_};
 ghost use Prim.Native.Nat.{_≤_, _<_};
 ghost use lib.ListN.{length, take};
-ghost use Rattle.tables.specs.Verdict.{accepted, isAccepted};
+ghost use Rattle.answers.specs.Verdict.{accepted, isAccepted};
 ghost use Rattle.drawing.specs.Drawing.{nodeCount, patternOf, checkLength};
 ghost use Rattle.builder.specs.Builder.{view};
 ghost use Rattle.algebra.specs.Run.{roomOf};

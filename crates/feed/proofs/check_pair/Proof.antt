@@ -2,7 +2,7 @@
 use mathlib.Core.Path.{_≡_, _∙_, ap}
 use Prim.Native.Nat.{_+_, _*_}
 use borrow.Author.Needs.{needs}
-use Rattle.tables.specs.Verdict.{Verdict}
+use Rattle.answers.specs.Verdict.{Verdict}
 use Rattle.feed.specs.Feed.{checkPair}
 use Rattle.feed.specs.Answers.{feedVerdict}
 use Rattle.feed.specs.inner.Parts.{before, pairFrom}

@@ -6,7 +6,7 @@ use Prim.Native.Nat.{_+_, _-_, _≤_}
 use native.Mathlib.Omega.{arith}
 use borrow.Author.Needs.{needs}
 use lib.ListN.{take, drop}
-use Rattle.tables.specs.Verdict.{_then_}
+use Rattle.answers.specs.Verdict.{_then_}
 use Rattle.feed.specs.Feed.{pairsOf, checkPairs}
 use Rattle.feed.specs.Answers.{feedVerdict}
 use Rattle.feed.proofs.Answers.{accepts, refuses}

@@ -9,7 +9,7 @@ use lib.ListN.{length, getD, take, drop}
 use Rattle.tables.specs.declared.Pair.{Pair}
 use Rattle.tables.specs.Lists.{total}
 use Rattle.tables.specs.Order.{Table, pair}
-use Rattle.tables.specs.Verdict.{Verdict, accepted, refused}
+use Rattle.answers.specs.Verdict.{Verdict, accepted, refused}
 use Rattle.feed.specs.Feed.{tableCount, counts, pairsOf}
 use Rattle.feed.specs.declared.Counts.{Counts}
 use Rattle.feed.specs.declared.Counts.the-variants.{Sum, Over}

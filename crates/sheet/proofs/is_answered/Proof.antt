@@ -1,7 +1,7 @@
 -- `sheet::is_answered` meets its contract.
 -- Assumes nothing.
 use borrow.Author.Needs.{needs}
-use Rattle.tables.specs.Verdict.{isAccepted}
+use Rattle.answers.specs.Verdict.{isAccepted}
 use Rattle.query.specs.Answers.{queryVerdict}
 use Rattle.sheet.proofs.is_answered.Statement.{statement}
 use Rattle.sheet.proofs.is_answered.Tie as tie

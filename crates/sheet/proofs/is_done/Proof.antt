@@ -1,7 +1,7 @@
 -- `sheet::is_done` meets its contract.
 -- Assumes nothing.
 use borrow.Author.Needs.{needs}
-use Rattle.tables.specs.Verdict.{isAccepted}
+use Rattle.answers.specs.Verdict.{isAccepted}
 use Rattle.translate.specs.Answers.{translationVerdict}
 use Rattle.sheet.proofs.is_done.Statement.{statement}
 use Rattle.sheet.proofs.is_done.Tie as tie

@@ -5,7 +5,7 @@
 use Prim.Native.Nat.{ℕ, _≤_}
 use mathlib.Core.Path.{_≡_}
 use mathlib.Core.List.{List}
-use Rattle.tables.specs.Verdict.{Verdict, accepted, refused, number, location}
+use Rattle.answers.specs.Verdict.{Verdict, accepted, refused, number, location}
 use Rattle.drawing.specs.Drawing.{patternOf}
 use Rattle.drawing.specs.Embeddings.{rows}
 use Rattle.builder.specs.declared.Drawing.{Drawing}

@@ -2,7 +2,7 @@
 -- Assumes nothing.
 use mathlib.Core.Path.{_≡_, _∙_, sym, ap}
 use borrow.Author.Needs.{needs}
-use Rattle.tables.specs.Verdict.{accepted, _then_}
+use Rattle.answers.specs.Verdict.{accepted, _then_}
 use Rattle.feed.specs.Feed.{checkFeed}
 use Rattle.feed.specs.Answers.{feedVerdict}
 use Rattle.feed.proofs.Feed.{feed-accepted}

@@ -1,7 +1,7 @@
 -- `algebra::check::check_list` meets its contract: the three tests of the length in turn, then each instruction. Assumes nothing.
 use borrow.Author.Needs.{needs}
 use borrow.Author.Tests.{le-leb, lt-leb, eq-eqb, ne-eqb}
-use Rattle.tables.specs.Verdict.{unless, _then_}
+use Rattle.answers.specs.Verdict.{unless, _then_}
 use Rattle.algebra.specs.Instructions.{instructionCeiling}
 use Rattle.algebra.specs.Answers.{instructionVerdict}
 use Rattle.algebra.specs.inner.Parts.{checkInstructionList}

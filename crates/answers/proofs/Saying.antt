@@ -1,9 +1,8 @@
--- Said: number and place of a verdict that is known.
+-- Saying: number and place of a verdict that is known.
 -- Assumes nothing.
 use Prim.Native.Nat.{ℕ}
 use mathlib.Core.Path.{_≡_, sym, ap, subst}
-use Rattle.tables.specs.Verdict.{Verdict, accepted, refused, number, location}
-use Rattle.answers.specs.Says.{Says}
+use Rattle.answers.specs.Verdict.{Verdict, accepted, refused, number, location, Says}
 
 pub says-accepted : {v : Verdict} → v ≡ accepted → Says v 0 0
 unfolding number location

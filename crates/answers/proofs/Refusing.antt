@@ -1,0 +1,36 @@
+-- Refusing: an answer other than `Accepted` refuses.
+-- Assumes nothing.
+use Prim.{tt}
+use mathlib.Core.Path.{_≡_, refl}
+use mathlib.Core.Bool.{false}
+use mathlib.Core.List.{List, [], _∷_}
+use Prim.Native.Nat.{ℕ}
+use types.Run.{OneOf, miss}
+use denote.Enum.Declared.{tagOf}
+use Rattle.answers.specs.Verdict.{isAccepted}
+use Rattle.answers.specs.Answers.{verdictOf}
+use Rattle.answers.specs.declared.Answer.{Answer}
+use Rattle.answers.specs.declared.Answer.the-variants.{Accepted, FeedLength, Ceiling, Ascent, Sides, DrawingLength, Missing, Unpicked, ListLength, Invalid, Full, Large, TooMany, Short, Breach}
+use Rattle.answers.proofs.Answer.{the-type}
+
+-- the tags of the refusals, as the compiler numbers them
+abbrev pub refusals : List ℕ
+refusals = 1 ∷ 2 ∷ 3 ∷ 4 ∷ 5 ∷ 6 ∷ 7 ∷ 8 ∷ 9 ∷ 10 ∷ 11 ∷ 12 ∷ 13 ∷ 14 ∷ []
+
+pub refuses : (a : Answer) → OneOf refusals (tagOf the-type a) → false ≡ isAccepted (verdictOf a)
+unfolding isAccepted verdictOf
+refuses Accepted o = absurd (miss refusals 0 tt o)
+refuses FeedLength o = refl
+refuses (Ceiling p) o = refl
+refuses (Ascent p) o = refl
+refuses (Sides p) o = refl
+refuses DrawingLength o = refl
+refuses (Missing p) o = refl
+refuses Unpicked o = refl
+refuses ListLength o = refl
+refuses (Invalid i) o = refl
+refuses (Full i) o = refl
+refuses (Large i) o = refl
+refuses TooMany o = refl
+refuses (Short n) o = refl
+refuses (Breach line) o = refl
