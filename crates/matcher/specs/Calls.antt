@@ -6,7 +6,7 @@ use Prim.Native.Nat.{ℕ}
 use mathlib.Core.Path.{_≡_}
 use mathlib.Core.List.{List}
 use Rattle.translator.specs.Translation.{Translated}
-use Rattle.query.specs.Query.{Answer}
+use Rattle.query.specs.Query.{Queried}
 use Rattle.answers.specs.Verdict.{Says}
 
 -- number and place, every word of the list, and how many instructions it has
@@ -16,7 +16,7 @@ pub record Translates (t : Translated) (n p : ℕ) (list₁ : List ℕ) (count :
   pub instructions : count ≡ t .instructions
 
 -- number and place, every word of the three slices, and how many words of the last are the rows
-pub record Answers (a : Answer) (n p : ℕ) (list₁ work₁ rows₁ : List ℕ) (words : ℕ) : Type 0 where
+pub record Answers (a : Queried) (n p : ℕ) (list₁ work₁ rows₁ : List ℕ) (words : ℕ) : Type 0 where
   pub says : Says (a .verdict) n p
   pub list : list₁ ≡ a .list
   pub work : work₁ ≡ a .work

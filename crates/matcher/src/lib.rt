@@ -1,21 +1,15 @@
 // The matcher's calls for C and Rust: a slice is a pointer, then a length.
 
-use answers::say_drawing;
-use answers::say_feed;
-use answers::say_run;
-use answers::say_translation;
-use query::say_query;
-use translate::TranslationCheck;
+use answers::say;
 ghost use mathlib.Core.Path.{_≡_};
 ghost use Rattle.feed.specs.Feed.{checkFeed};
 ghost use Rattle.drawing.specs.Drawing.{checkDrawing};
 ghost use Rattle.algebra.specs.Run.{run};
 ghost use Rattle.translator.specs.Translation.{translate};
-ghost use Rattle.translate.specs.Answers.{instructionsIn};
 ghost use Rattle.query.specs.Query.{query};
 ghost use Rattle.query.specs.Answers.{slices};
 ghost use Rattle.answers.specs.Verdict.{Says};
-ghost use Rattle.sheet_listing.specs.inner.Written.{listed};
+ghost use Rattle.sheet_listing.specs.Listing.{listed};
 ghost use Rattle.sheet.specs.SheetQuery.{sheetQuery};
 ghost use Rattle.matcher.specs.Calls.{Translates, Answers};
 
@@ -24,7 +18,7 @@ ghost use Rattle.matcher.specs.Calls.{Translates, Answers};
 pub extern "C" fn matcher_check_feed(feed: &[u32], place: &mut u32) -> u32
     ensures { λ r. ⌜ Says (checkFeed (now (feed .entry))) r (now (place .exit)) ⌝ }
 {
-    say_feed(feed::check_feed(feed), place)
+    say(feed::check_feed(feed), place)
 }
 
 // Checks a feed, then a drawing: 1 to 7.
@@ -32,7 +26,7 @@ pub extern "C" fn matcher_check_feed(feed: &[u32], place: &mut u32) -> u32
 pub extern "C" fn matcher_check_drawing(feed: &[u32], drawing: &[u32], place: &mut u32) -> u32
     ensures { λ r. ⌜ Says (checkDrawing (now (feed .entry)) (now (drawing .entry))) r (now (place .exit)) ⌝ }
 {
-    say_drawing(drawing::check_drawing(feed, drawing), place)
+    say(drawing::check_drawing(feed, drawing), place)
 }
 
 // Checks a feed and an instruction list, then runs the list: 1 to 4 and 8 to 11.
@@ -41,17 +35,7 @@ pub extern "C" fn matcher_run(feed: &[u32], list: &[u32], work: &mut [u32], plac
     ensures { λ r. ⌜ Says (run (now (feed .entry)) (now (list .entry)) (now (work .entry)) .verdict) r (now (place .exit)) ⌝
         ∗ ⌜ now (work .exit) ≡ run (now (feed .entry)) (now (list .entry)) (now (work .entry)) .work ⌝ }
 {
-    say_run(run::run(feed, list, work), place)
-}
-
-// How many instructions a translation has written.
-fn written(answer: TranslationCheck) -> usize
-    ensures { λ r. ⌜ r ≡ instructionsIn answer ⌝ }
-{
-    match answer {
-        TranslationCheck::Done(n) => n as usize,
-        _ => 0,
-    }
+    say(run::run(feed, list, work), place)
 }
 
 // Checks a feed and a drawing, then translates the drawing: 1 to 7 and 13.
@@ -65,9 +49,9 @@ pub extern "C" fn matcher_translate(
 ) -> u32
     ensures { λ r. ⌜ Translates (translate (now (feed .entry)) (now (drawing .entry)) (now (list .entry))) r (now (place .exit)) (now (list .exit)) (now (instructions .exit)) ⌝ }
 {
-    let answer = translate::translate(feed, drawing, list);
-    *instructions = written(answer);
-    say_translation(answer, place)
+    let made = translate::translate(feed, drawing, list);
+    *instructions = made.instructions as usize;
+    say(made.answer, place)
 }
 
 // Checks a feed and a drawing, translates the drawing, runs the translation and gives the rows: 1 to 7 and 10 to 13.
@@ -84,9 +68,9 @@ pub extern "C" fn matcher_query(
     ensures { λ r. ⌜ Answers (query (now (feed .entry)) (now (drawing .entry)) (slices (now (list .entry)) (now (work .entry)) (now (rows .entry)))) r (now (place .exit))
         (now (list .exit)) (now (work .exit)) (now (rows .exit)) (now (extent .exit)) ⌝ }
 {
-    let answer = query::query_into(feed, drawing, list, work, rows);
-    *extent = query::extent(answer);
-    say_query(answer, place)
+    let given = query::query_into(feed, drawing, list, work, rows);
+    *extent = given.extent;
+    say(given.answer, place)
 }
 
 // The listing of a sheet: its length, 0 where it does not fit.

@@ -30,8 +30,8 @@ use Rattle.sheet_text.specs.Text.{bytes, digits, digitsBefore}
 use Rattle.sheet_lines.specs.Reading.{Reading}
 use Rattle.sheet_reader.specs.Sheet.{Outcome, readSheet, feedWords, drawingWords}
 use Rattle.sheet_reader.proofs.Words.{sheet-long}
-use Rattle.sheet_listing.specs.Listing.{line, pickedNames, listing, refusal, Listed, listedIn}
-use Rattle.sheet_listing.specs.inner.Written.{rowLines, listed}
+use Rattle.sheet_listing.specs.Listing.{line, pickedNames, listing, refusal, Listed, listedIn, listed}
+use Rattle.sheet_listing.specs.inner.Written.{rowLines}
 use Rattle.sheet.specs.SheetQuery.{ownSlices, answerText, outcomeText, sheetListing, sheetQuery, longestListing, decidingBytes}
 use Rattle.sheet.proofs.NodeNames.{Shorter, Few, Sheet, broken, whole, sheet-few}
 use Rattle.sheet.proofs.Picks.{row-length}

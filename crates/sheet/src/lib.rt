@@ -28,8 +28,8 @@ ghost use Rattle.query.specs.Query.{pickCount};
 ghost use Rattle.query.specs.Answers.{queryVerdict};
 ghost use Rattle.sheet_text.specs.inner.Parts.{namesOf, Spans};
 ghost use Rattle.sheet_reader.specs.inner.Answers.{Answers};
-ghost use Rattle.sheet_listing.specs.Listing.{pickedNames, listing, listedIn};
-ghost use Rattle.sheet_listing.specs.inner.Written.{listed, rowsOf};
+ghost use Rattle.sheet_listing.specs.Listing.{pickedNames, listing, listedIn, listed};
+ghost use Rattle.sheet_listing.specs.inner.Written.{rowsOf};
 ghost use Rattle.sheet.specs.SheetQuery.{sheetQuery};
 ghost use Rattle.sheet.specs.inner.Printing.{Sized, Fresh, refusalOf, wordsText};
 

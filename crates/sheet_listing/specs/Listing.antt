@@ -35,7 +35,10 @@ pub record Listed : Type 0 where
   pub length′ : ℕ
   pub buffer : List ℕ
 
+-- a call's answer, and the slice as it leaves it
+abbrev pub listed : ℕ → List ℕ → Listed
+listed r after = record { length′ = r; buffer = after }
+
 unfoldable pub listedIn : List ℕ → List ℕ → Listed
 listedIn text buffer =
-    cond (leb (length text) (length buffer)) (record { length′ = length text; buffer = text ++ drop (length text) buffer })
-    (record { length′ = 0; buffer = replicate (length buffer) 0 })
+    cond (leb (length text) (length buffer)) (listed (length text) (text ++ drop (length text) buffer)) (listed 0 (replicate (length buffer) 0))

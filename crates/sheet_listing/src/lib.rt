@@ -11,8 +11,8 @@ ghost use lib.Seq.{slice};
 ghost use Rattle.builder.specs.Builder.{view};
 ghost use Rattle.sheet_text.specs.Text.{digits};
 ghost use Rattle.sheet_text.specs.inner.Parts.{Inside, span, nameAt, namesOf, Spans};
-ghost use Rattle.sheet_listing.specs.Listing.{line, pickedNames, listing, refusal, listedIn};
-ghost use Rattle.sheet_listing.specs.inner.Written.{Put, gap, rowsOf, rowLines, listed, finished};
+ghost use Rattle.sheet_listing.specs.Listing.{line, pickedNames, listing, refusal, listedIn, listed};
+ghost use Rattle.sheet_listing.specs.inner.Written.{Put, gap, rowsOf, rowLines, finished};
 
 // One byte.
 fn put_byte(out: &mut [u8], at: usize, b: u8) -> usize

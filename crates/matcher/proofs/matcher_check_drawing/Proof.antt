@@ -1,6 +1,6 @@
 -- `matcher::matcher_check_drawing` meets its contract.
 -- Assumes nothing.
-use Rattle.answers.proofs.Said.{says-same}
+use Rattle.answers.proofs.Saying.{says-same}
 use borrow.Author.Needs.{needs}
 use Rattle.matcher.proofs.matcher_check_drawing.Statement.{statement}
 use Rattle.matcher.proofs.matcher_check_drawing.Tie as tie
@@ -8,12 +8,12 @@ use Rattle.matcher.proofs.matcher_check_drawing.Tie as tie
 check-drawing-requires : tie.Need-check-drawing-requires
 check-drawing-requires c κs = search needs
 
-say-drawing-requires : tie.Need-say-drawing-requires
-say-drawing-requires c κs = search needs
+say-requires : tie.Need-say-requires
+say-requires c κs = search needs
 
 returns : tie.Need-returns
-returns c = says-same (c .before .before .check-drawing .ensures) (c .say-drawing .ensures)
+returns c = says-same (c .before .before .check-drawing .ensures) (c .say .ensures)
 
 pub matcher-check-drawing-spec : {M : Type 1} → statement M
 matcher-check-drawing-spec =
-    tie.close (tie.spec check-drawing-requires say-drawing-requires returns)
+    tie.close (tie.spec check-drawing-requires say-requires returns)

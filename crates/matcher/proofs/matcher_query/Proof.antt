@@ -2,7 +2,7 @@
 -- Assumes nothing.
 use borrow.Author.Needs.{needs}
 use mathlib.Core.Path.{_∙_}
-use Rattle.answers.proofs.Said.{says-same}
+use Rattle.answers.proofs.Saying.{says-same}
 use Rattle.matcher.proofs.matcher_query.Statement.{statement}
 use Rattle.matcher.proofs.matcher_query.Tie as tie
 
@@ -12,8 +12,8 @@ query-into-requires c κs = search needs
 extent-requires : tie.Need-extent-requires
 extent-requires c κs = search needs
 
-say-query-requires : tie.Need-say-query-requires
-say-query-requires c κs = search needs
+say-requires : tie.Need-say-requires
+say-requires c κs = search needs
 
 same-length : tie.Need-same-length
 same-length c = search needs
@@ -27,7 +27,7 @@ same-length-3 c = search needs
 returns : tie.Need-returns
 returns c =
     let a = c .before .before .before .before .before .before .before .before .before .query-into .ensures in
-    record { says = says-same (a .verdict) (c .say-query .ensures); list = a .list; work = a .work; rows = a .out; extent = c .before .before .extent .ensures ∙ a .extent }
+    record { says = says-same (a .verdict) (c .say .ensures); list = a .list; work = a .work; rows = a .out; extent = c .before .before .extent .ensures ∙ a .extent }
 
 pub matcher-query-spec : {M : Type 1} → statement M
 matcher-query-spec =
@@ -35,7 +35,7 @@ matcher-query-spec =
     (tie.spec
     query-into-requires
     extent-requires
-    say-query-requires
+    say-requires
     same-length
     same-length-2
     same-length-3

@@ -2,7 +2,8 @@
 use borrow.Author.Needs.{needs}
 use mathlib.Core.Path.{ap}
 use borrow.Author.Tests.{le-leb, lt-leb}
-use Rattle.sheet_listing.specs.inner.Written.{listed, finished}
+use Rattle.sheet_listing.specs.Listing.{listed}
+use Rattle.sheet_listing.specs.inner.Written.{finished}
 use Rattle.sheet_listing.proofs.finish.Statement.{statement}
 use Rattle.sheet_listing.proofs.finish.Tie as tie
 
