@@ -9,6 +9,7 @@ use mathlib.Core.Bool.{Bool, true, false, _&&_, not, cond}
 use mathlib.Core.List.{List, [], _∷_}
 use lib.Dec.{eqb, leb, ltb}
 use lib.ListN.{length}
+use Rattle.limits.specs.Limits.{mostDigits, mostLetters}
 use Rattle.tables.specs.Lists.{all}
 
 unfoldable pub bytes : String → List ℕ
@@ -41,7 +42,7 @@ within low high b = leb low b && leb b high
 
 -- "Names are 1 to 12 lower-case letters"
 unfoldable pub isName : List ℕ → Bool
-isName bs = within 1 12 (length bs) && all (within 97 122) bs
+isName bs = within 1 mostLetters (length bs) && all (within 97 122) bs
 
 -- "Numbers are 1 to 5 digits without leading zeros"
 unfoldable pub noLeadingZero : List ℕ → Bool
@@ -50,7 +51,7 @@ noLeadingZero (b ∷ []) = true
 noLeadingZero (b ∷ c ∷ bs) = not (eqb b 48)
 
 unfoldable pub isNumber : List ℕ → Bool
-isNumber bs = within 1 5 (length bs) && all (within 48 57) bs && noLeadingZero bs
+isNumber bs = within 1 mostDigits (length bs) && all (within 48 57) bs && noLeadingZero bs
 
 unfoldable pub valueFrom : ℕ → List ℕ → ℕ
 valueFrom n [] = n

@@ -1,10 +1,14 @@
 // Text in a byte slice: lines and fields, names and numbers. A part of the slice is named by the place where it starts and the place
 // after its end.
 
+use limits::DIGITS;
+use limits::LABELS;
+use limits::LETTERS;
 ghost use mathlib.Core.Path.{_≡_};
 ghost use mathlib.Core.Bool.{true};
 ghost use Prim.Native.Nat.{_<_};
 ghost use lib.Seq.{slice};
+ghost use Rattle.limits.specs.Limits.{mostLabels};
 ghost use Rattle.tables.specs.Lists.{all};
 ghost use Rattle.sheet_text.specs.Text.{within, isName, isNumber, valueOf, same, find};
 ghost use Rattle.sheet_text.specs.inner.Parts.{Inside, Cut, Fielded, span, namesOf, noNames, withName, Spans};
@@ -17,7 +21,7 @@ pub struct Span {
 
 // Names by number: the first n are there.
 pub struct Names {
-    pub spans: [Span; 64],
+    pub spans: [Span; LABELS],
     pub n: usize,
 }
 
@@ -105,7 +109,7 @@ pub fn is_name(s: &[u8], a: usize, e: usize) -> bool
     if a == e {
         return false;
     }
-    if e - a > 12 {
+    if e - a > LETTERS {
         return false;
     }
     all_within(s, a, e, 97, 122)
@@ -119,7 +123,7 @@ pub fn is_number(s: &[u8], a: usize, e: usize) -> bool
     if a == e {
         return false;
     }
-    if e - a > 5 {
+    if e - a > DIGITS {
         return false;
     }
     if s[a] == 48 {
@@ -164,7 +168,7 @@ pub fn same_text(s: &[u8], a: usize, e: usize, t: &[u8], b: usize, f: usize) -> 
 
 // The number of a name; as many as there are where it is none of them.
 pub fn find_name(s: &[u8], a: usize, e: usize, names: Names) -> usize
-    requires { ⌜ Inside (now s) a e ⌝ ∗ ⌜ Spans (now s) names 64 ⌝ }
+    requires { ⌜ Inside (now s) a e ⌝ ∗ ⌜ Spans (now s) names mostLabels ⌝ }
     ensures { λ r. ⌜ r ≡ find (slice a e (now (s .entry))) (namesOf (now (s .entry)) names) ⌝ }
 {
     let n = names.n;
@@ -184,13 +188,13 @@ pub fn no_names() -> Names
     ensures { λ r. ⌜ r ≡ noNames ⌝ }
 {
     let p = Span { start: 0, end: 0 };
-    let spans = [p; 64];
+    let spans = [p; LABELS];
     Names { spans, n: 0 }
 }
 
 // The names, and one more, which is a part of the slice.
 pub fn with_name(names: Names, a: usize, e: usize) -> Names
-    requires { ⌜ names .n < 64 ⌝ }
+    requires { ⌜ names .n < mostLabels ⌝ }
     ensures { λ r. ⌜ r ≡ withName names (span a e) ⌝ }
 {
     let n = names.n;

@@ -7,6 +7,7 @@ use mathlib.Core.Path.{_≡_}
 use mathlib.Core.List.{List, [], _∷_, map}
 use lib.ListN.{length, getD, set, take, replicate}
 use lib.Seq.{slice}
+use Rattle.limits.specs.Limits.{mostLabels}
 use Rattle.sheet_text.specs.Text.{split, fields}
 use Rattle.sheet_text.specs.declared.Span.{Span}
 use Rattle.sheet_text.specs.declared.Names.{Names}
@@ -57,13 +58,13 @@ unfoldable pub namesOf : List ℕ → Names → List (List ℕ)
 namesOf s x = map (nameAt s) (take (x .n) (x .spans))
 
 unfoldable pub noNames : Names
-noNames = record { spans = replicate 64 (span 0 0); n = 0 }
+noNames = record { spans = replicate mostLabels (span 0 0); n = 0 }
 
 unfoldable pub withName : Names → Span → Names
 withName x p = record { spans = set (x .spans) (x .n) p; n = x .n + 1 }
 
 -- at most so many names, each of them a part of the slice
 pub record Spans (s : List ℕ) (x : Names) (most : ℕ) : Type 0 where
-  pub size : length (x .spans) ≡ 64
+  pub size : length (x .spans) ≡ mostLabels
   pub few : x .n ≤ most
   pub inside : (k : ℕ) → k < x .n → Inside s (getD (x .spans) k (span 0 0) .start) (getD (x .spans) k (span 0 0) .end)
