@@ -4,3 +4,4 @@ pub mod Run
 pub mod Registers
 pub mod Signatures
 pub mod Instructions
+pub mod Demand

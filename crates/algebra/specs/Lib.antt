@@ -1,4 +1,5 @@
 pub mod Answers
+pub mod Demand
 pub mod Instructions
 pub mod Operators
 pub mod Run
