@@ -5,3 +5,4 @@ pub mod Registers
 pub mod Signatures
 pub mod Instructions
 pub mod Demand
+pub mod Sizes
