@@ -1,22 +1,25 @@
 -- Checks: the check of the counts, of the tables and of a whole feed, in the steps in which the code takes them.
 --
--- In order: the counts, from one of them on; what counts that were accepted are; the tables, from one of them on; the first two words; the
--- whole.
+-- In order: the counts, from one of them on; what counts that were accepted are; the tables, from one of them on; classes, then labels; the first two
+-- words; the whole.
 -- Assumes nothing.
-use mathlib.Core.Path.{_≡_, sym, _∙_}
-use mathlib.Core.List.{List, [], _∷_}
+use mathlib.Core.Path.{_≡_, refl, sym, _∙_, ap}
+use mathlib.Core.Bool.{Bool, true, false}
+use mathlib.Core.List.{List, [], _∷_, _++_, map}
 use Prim.Native.Nat.{ℕ, zero, suc, _+_, _*_, _-_, _<_, _≤_}
 use native.Mathlib.Nat.{zero-add, add-zero, add-assoc}
 use native.Mathlib.Decide.{decLt}
 use native.Mathlib.Omega.{arith}
 use lib.Dec.{eqb, ltb}
-use lib.ListN.{length, getD, take, drop, drop-of-length-le}
+use lib.ListN.{length, getD, take, drop, drop-of-length-le, take-append-drop}
+use lib.Seq.{length-take-le}
 use borrow.Author.Tests.{lt-ltb, le-ltb, lt-leb, le-leb, eq-eqb, ne-eqb}
 use Rattle.answers.specs.Verdict.{Verdict, accepted, refused, unless, _then_}
 use Rattle.tables.specs.Lists.{total}
+use Rattle.tables.specs.Order.{Table}
 use Rattle.tables.proofs.Tests.{leb-is}
-use Rattle.answers.proofs.Verdict.{then-accepted, unless-accepted}
-use Rattle.feed.specs.Feed.{classCount, labelCount, tableCount, counts, pairsOf, cut, tables, checkCounts, checkPairs, checkTables, checkFeed}
+use Rattle.answers.proofs.Verdict.{then-accepted, then-assoc, unless-accepted}
+use Rattle.feed.specs.Feed.{classCount, labelCount, tableCount, counts, body, pairsOf, cut, tables, checkCounts, checkPairs, checkTables, checkFeed}
 use Rattle.feed.specs.inner.Parts.{countsFound, Exact}
 use Rattle.feed.specs.declared.Counts.{Counts}
 use Rattle.feed.specs.declared.Counts.the-variants.{Sum, Over}
@@ -97,6 +100,40 @@ module _ (feed : List ℕ) (counted : 2 + tableCount feed ≤ length feed) (k i 
   tables-end h =
       let l : length (counts feed) ≤ k = rw (length-counts feed counted) h in
       rw (drop-of-length-le (counts feed) l)
+
+-- the check of tables that are all classes, or all labels
+unfoldable pub checkAll : Bool → ℕ → List Table → Verdict
+checkAll isClass at [] = accepted
+checkAll isClass at (t ∷ ts) = checkPairs isClass at [] t then checkAll isClass (at + 2 * length t) ts
+
+-- the check of tables is that of the classes, and then that of the labels behind them
+tables-as-labels : (at : ℕ) (ls : List Table) → checkTables 0 at ls ≡ checkAll false at ls
+unfolding checkTables checkAll
+tables-as-labels at [] = refl
+tables-as-labels at (t ∷ ts) = rw (le-ltb 0 0 (omega arith), tables-as-labels (at + 2 * length t) ts)
+
+pub classes-then-labels : (at : ℕ) (cs ls : List Table) → checkTables (length cs) at (cs ++ ls) ≡ checkAll true at cs then checkAll false (at + 2 * total (map length cs)) ls
+unfolding checkTables checkAll total _then_
+classes-then-labels at [] ls = let e : at + 2 * 0 ≡ at = omega arith in rw e (tables-as-labels at ls)
+classes-then-labels at (t ∷ ts) ls =
+    let d : suc (length ts) - 1 ≡ length ts = omega arith in
+    let e : at + 2 * (length t + total (map length ts)) ≡ at + 2 * length t + 2 * total (map length ts) = omega arith in
+    rw (lt-ltb 0 (suc (length ts)) (omega arith), d, e, then-assoc, classes-then-labels (at + 2 * length t) ts ls)
+
+length-cut : {A : Type 0} (ns : List ℕ) (xs : List A) → length (cut ns xs) ≡ length ns
+unfolding cut
+length-cut [] xs = refl
+length-cut (n ∷ ns) xs = ap suc (length-cut ns (drop n xs))
+
+-- so are the tables of a feed checked: those that `classTable` reads, and then those that `labelTable` reads
+pub feed-classes-then-labels : (feed : List ℕ) (at : ℕ) → 2 + tableCount feed ≤ length feed → checkTables (classCount feed) at (tables feed)
+    ≡ checkAll true at (take (classCount feed) (tables feed))
+    then checkAll false (at + 2 * total (map length (take (classCount feed) (tables feed)))) (drop (classCount feed) (tables feed))
+unfolding tables tableCount
+feed-classes-then-labels feed at counted =
+    let c = classCount feed in
+    let h : c ≤ length (tables feed) = omega (arith, length-cut (counts feed) (pairsOf (body feed)), length-counts feed counted) in
+    rw (length-take-le c (tables feed) h, take-append-drop) at (classes-then-labels at (take c (tables feed)) (drop c (tables feed)))
 
 -- the check of a feed that stops at the first two words
 module _ (feed : List ℕ) where

@@ -77,7 +77,8 @@ unfoldable pub checkPairs : Bool → ℕ → List Pair → Table → Verdict
 checkPairs isClass at before [] = accepted
 checkPairs isClass at before (p ∷ ps) = checkPair isClass at before p then checkPairs isClass (at + 2) (p ∷ []) ps
 
--- the tables from here on, the first c of which are classes
+-- the tables from here on, the first c of which are classes; `classes-then-labels` (proofs/Checks) says that this is the check of c classes
+-- as classes, and then that of the labels behind them as labels
 unfoldable pub checkTables : ℕ → ℕ → List Table → Verdict
 checkTables c at [] = accepted
 checkTables c at (t ∷ ts) = checkPairs (ltb 0 c) at [] t then checkTables (c - 1) (at + 2 * length t) ts
