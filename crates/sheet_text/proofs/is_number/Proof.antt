@@ -6,6 +6,15 @@ use native.Mathlib.Omega.{arith}
 use Rattle.sheet_text.proofs.is_number.Statement.{statement}
 use Rattle.sheet_text.proofs.is_number.Tie as tie
 
+-- ---- places
+abbrev entry-of-else1 : tie.Else1 → tie.Start
+entry-of-else1 c = c .before .before
+
+abbrev entry-of-then3 : tie.Then3 → tie.Start
+entry-of-then3 c = entry-of-else1 (c .before .before .before)
+
+-- ---- end of places
+
 returns : tie.Need-returns
 returns c = no-number _ (c .before .before .args .a) _ (c .before .before .pre .ends) (omega arith)
 
@@ -22,7 +31,7 @@ sub-result : tie.Need-sub-result
 sub-result c = search needs
 
 returns-3 : tie.Need-returns-3
-returns-3 c = zero-number _ _ _ (c .before .before .before .before .before .pre .ends) (omega arith) (c .if3 .taken)
+returns-3 c = zero-number _ _ _ (entry-of-then3 c .pre .ends) (omega arith) (c .if3 .taken)
 
 all-within-requires : tie.Need-all-within-requires
 all-within-requires c κs = search needs
