@@ -1,5 +1,5 @@
-pub mod Answers
 pub mod Checks
 pub mod Feed
 pub mod Pairs
 pub mod Words
+pub mod Written

@@ -1,15 +1,17 @@
 -- Feed: the tables that the words of a feed give, and the check of a feed (document 01, 'Feed and drawing', refusals 1 to 4).
 --
--- In order: the parts of a feed; its tables; the check, in document 01's order. A word that is not there reads as 0.
+-- In order: the parts of a feed; its tables; the words of tables; the check, in document 01's order. A word that is not there reads as 0.
 -- Assumes nothing.
 use Prim.Native.Nat.{ℕ, _+_, _*_, _-_}
 use mathlib.Core.Bool.{Bool, true, _&&_, not, _||_}
-use mathlib.Core.List.{List, [], _∷_}
+use mathlib.Core.List.{List, [], _∷_, _++_, map}
 use lib.Dec.{eqb, leb, ltb}
 use lib.ListN.{length, getD, take, drop}
+use Rattle.limits.specs.Limits.{mostClasses, mostLabels, mostTablePairs, largestObject}
 use Rattle.tables.specs.declared.Pair.{Pair}
 use Rattle.tables.specs.Order.{Table, pair, comparePair, isLess}
 use Rattle.tables.specs.Lists.{total}
+use Rattle.tables.specs.Slices.{tablesWords}
 use Rattle.answers.specs.Verdict.{Verdict, accepted, unless, _then_}
 
 -- ---- the parts
@@ -54,12 +56,19 @@ classTable feed k = getD (take (classCount feed) (tables feed)) k []
 unfoldable pub labelTable : List ℕ → ℕ → Table
 labelTable feed k = getD (drop (classCount feed) (tables feed)) k []
 
+-- ---- the words of these class tables and these label tables
+
+unfoldable pub feedWords : List Table → List Table → List ℕ
+feedWords classes labels =
+    let all = classes ++ labels in
+    length classes ∷ length labels ∷ (map length all ++ tablesWords all)
+
 -- ---- the check
 
 -- "2: C, L or a count over its ceiling (that word)"
 unfoldable pub checkCounts : ℕ → List ℕ → Verdict
 checkCounts at [] = accepted
-checkCounts at (n ∷ ns) = unless (leb n 4096) 2 at then checkCounts (at + 1) ns
+checkCounts at (n ∷ ns) = unless (leb n mostTablePairs) 2 at then checkCounts (at + 1) ns
 
 -- p is above the pair before it, of which there is at most one
 unfoldable pub above : List Pair → Pair → Bool
@@ -70,7 +79,7 @@ above (q ∷ qs) p = isLess (comparePair q p)
 -- "4: class pair with unequal sides (left word)"; at one pair 3 comes before 4
 unfoldable pub checkPair : Bool → ℕ → List Pair → Pair → Verdict
 checkPair isClass at before p =
-    unless (leb (p .left) 65535 && leb (p .right) 65535 && above before p) 3 at
+    unless (leb (p .left) largestObject && leb (p .right) largestObject && above before p) 3 at
     then unless (not isClass || eqb (p .left) (p .right)) 4 at
 
 unfoldable pub checkPairs : Bool → ℕ → List Pair → Table → Verdict
@@ -87,8 +96,8 @@ checkTables c at (t ∷ ts) = checkPairs (ltb 0 c) at [] t then checkTables (c -
 unfoldable pub checkFeed : List ℕ → Verdict
 checkFeed feed =
     unless (leb 2 (length feed)) 1 0
-    then unless (leb (classCount feed) 32) 2 0
-    then unless (leb (labelCount feed) 64) 2 1
+    then unless (leb (classCount feed) mostClasses) 2 0
+    then unless (leb (labelCount feed) mostLabels) 2 1
     then unless (leb (2 + tableCount feed) (length feed)) 1 0
     then checkCounts 2 (counts feed)
     then unless (eqb (length feed) (2 + tableCount feed + 2 * total (counts feed))) 1 0
