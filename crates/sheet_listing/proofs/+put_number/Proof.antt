@@ -27,6 +27,29 @@ put-number-below t = and 1 put-number-kinds.ps (falls 1 put-number-kinds.ps _<_ 
 abbrev claims : ℕ → put-number-lts.Claims
 claims t = (put-byte-reads.Asked, put-byte-reads.Learnt, put-number-below t, put-number.Post)
 
+-- ---- places
+abbrev then1-of-returns : {t : ℕ} →
+    put-number-lts.After-slice-known2 (claims t) (put-number-at t) put-number.Post →
+    put-number-lts.Then1 (claims t) (put-number-at t) put-number.Post
+then1-of-returns c = c .before .before .before .before
+
+abbrev put-number-of-put-byte2 : {t : ℕ} →
+    put-number-lts.After-put-byte2 (claims t) (put-number-at t) put-number.Post →
+    put-number-lts.After-put-number (claims t) (put-number-at t) put-number.Post
+put-number-of-put-byte2 c = c .before .before .before .before
+
+abbrev put-number-of-returns-2 : {t : ℕ} →
+    put-number-lts.After-slice-known4 (claims t) (put-number-at t) put-number.Post →
+    put-number-lts.After-put-number (claims t) (put-number-at t) put-number.Post
+put-number-of-returns-2 c = put-number-of-put-byte2 (c .before .before)
+
+abbrev else1-of-returns-2 : {t : ℕ} →
+    put-number-lts.After-slice-known4 (claims t) (put-number-at t) put-number.Post →
+    put-number-lts.Else1 (claims t) (put-number-at t) put-number.Post
+else1-of-returns-2 c = put-number-of-returns-2 c .before .before
+
+-- ---- end of places
+
 put-number-cast-put-byte : (t : ℕ) → put-number-lts.Need-cast-put-byte (claims t) (put-number-at t) put-number.Post
 put-number-cast-put-byte t c = omega (arith, c .before .if1 .taken)
 
@@ -40,7 +63,7 @@ put-number-same-length : (t : ℕ) → put-number-lts.Need-same-length (claims t
 put-number-same-length t c = c .before .before .put-byte .kept .0
 
 put-number-returns : (t : ℕ) → put-number-lts.Need-returns (claims t) (put-number-at t) put-number.Post
-put-number-returns t c = put-same (digits-one _ (c .before .before .before .before .if1 .taken)) (c .before .before .put-byte .ensures)
+put-number-returns t c = put-same (digits-one _ (then1-of-returns c .if1 .taken)) (c .before .before .put-byte .ensures)
 
 put-number-put-number-requires : (t : ℕ) → put-number-lts.Need-put-number-requires (claims t) (put-number-at t) put-number.Post
 put-number-put-number-requires t c κs = (omega (arith, c .before .before .before .pre .0, c .before .if1 .left), tt)
@@ -55,12 +78,12 @@ put-number-put-byte-requires-2 : (t : ℕ) → put-number-lts.Need-put-byte-requ
 put-number-put-byte-requires-2 t c κs = tt
 
 put-number-same-length-2 : (t : ℕ) → put-number-lts.Need-same-length-2 (claims t) (put-number-at t) put-number.Post
-put-number-same-length-2 t c = c .before .before .put-byte2 .kept .0 ∙ c .before .before .before .before .before .before .put-number .kept .0
+put-number-same-length-2 t c = c .before .before .put-byte2 .kept .0 ∙ put-number-of-returns-2 c .put-number .kept .0
 
 put-number-returns-2 : (t : ℕ) → put-number-lts.Need-returns-2 (claims t) (put-number-at t) put-number.Post
 put-number-returns-2 t c =
-    let n = c .before .before .before .before .before .before .before .before in
-    put-same (digits-more _ (n .if1 .left) (omega (arith, n .before .before .fits .n))) (put-then (c .before .before .before .before .before .before .put-number .ensures) (c .before .before .put-byte2 .ensures))
+    let n = else1-of-returns-2 c in
+    put-same (digits-more _ (n .if1 .left) (omega (arith, n .before .before .fits .n))) (put-then (put-number-of-returns-2 c .put-number .ensures) (c .before .before .put-byte2 .ensures))
 
 pub +put-number-spec : {M : Type 1} → statement M
 +put-number-spec = close μ-put-number λ t. put-number-lts.spec (claims t)

@@ -4,6 +4,15 @@ use Rattle.sheet_listing.proofs.Putting.{put-then}
 use Rattle.sheet_listing.proofs.put_field.Statement.{statement}
 use Rattle.sheet_listing.proofs.put_field.Tie as tie
 
+-- ---- places
+abbrev put-gap-of-put-number : tie.After-put-number → tie.After-put-gap
+put-gap-of-put-number c = c .before .before .before .before
+
+abbrev put-gap-of-returns : tie.After-slice-known3 → tie.After-put-gap
+put-gap-of-returns c = put-gap-of-put-number (c .before .before)
+
+-- ---- end of places
+
 put-gap-requires : tie.Need-put-gap-requires
 put-gap-requires c κs = search needs
 
@@ -14,7 +23,7 @@ same-length : tie.Need-same-length
 same-length c = search needs
 
 returns : tie.Need-returns
-returns c = put-then (c .before .before .before .before .before .before .put-gap .ensures) (c .before .before .put-number .ensures)
+returns c = put-then (put-gap-of-returns c .put-gap .ensures) (c .before .before .put-number .ensures)
 
 pub put-field-spec : {M : Type 1} → statement M
 put-field-spec = tie.close (tie.spec put-gap-requires put-number-requires same-length returns)

@@ -15,6 +15,30 @@ Inv-loop out₀ at sheet names drawing n k₀ first₀ i₀ out k first i = (Nam
 abbrev μ-loop : tie.MeasureT-loop
 μ-loop out₀ at sheet names drawing n k₀ first₀ i₀ out k first i = n - i
 
+-- ---- places
+abbrev entry-of-in-loop : tie.In-loop Inv-loop μ-loop → tie.Start Inv-loop μ-loop
+entry-of-in-loop c = c .before .before .before .before
+
+abbrev entry-of-after-loop : tie.After-loop Inv-loop μ-loop → tie.Start Inv-loop μ-loop
+entry-of-after-loop c = c .before .before .before .before
+
+abbrev in-loop-of-put-name-arg : tie.After-put-name-arg Inv-loop μ-loop → tie.In-loop Inv-loop μ-loop
+in-loop-of-put-name-arg c = c .before .before .before .before
+
+abbrev then1-of-again : tie.After-slice-known2 Inv-loop μ-loop → tie.Then1 Inv-loop μ-loop
+then1-of-again c = c .before .before .before .before
+
+abbrev in-loop-of-again : tie.After-slice-known2 Inv-loop μ-loop → tie.In-loop Inv-loop μ-loop
+in-loop-of-again c = then1-of-again c .before .before .before
+
+abbrev after-loop-of-returns : tie.After-slice-known3 Inv-loop μ-loop → tie.After-loop Inv-loop μ-loop
+after-loop-of-returns c = c .before .before .before .before
+
+abbrev loop-of-returns : tie.After-slice-known3 Inv-loop μ-loop → tie.At-loop Inv-loop μ-loop
+loop-of-returns c = after-loop-of-returns c .before
+
+-- ---- end of places
+
 named : (s : tie.Start Inv-loop μ-loop) → Named (s .args .sheet .now) (s .args .names) (s .args .t5)
 named s = record { spans = s .pre .0; each = s .pre .1; room = roomy (s .args .t5) (s .good .1 .1 .1 .1 .0) .nodes }
 
@@ -22,18 +46,18 @@ loop-holds : tie.Need-loop-holds Inv-loop μ-loop
 loop-holds c = (naming-start _ _ _ _ _, refl)
 
 mul-v : tie.Need-mul-v Inv-loop μ-loop
-mul-v c = omega (arith, c .before .loop .inv .1, c .before .before .before .before .pre .0 .few, c .before .before .before .before .pre .1)
+mul-v c = omega (arith, c .before .loop .inv .1, entry-of-in-loop c .pre .0 .few, entry-of-in-loop c .pre .1)
 
 element-copy-out-v : tie.Need-element-copy-out-v Inv-loop μ-loop
-element-copy-out-v c = omega (arith, c .before .loop .inv .1, c .before .before .before .before .pre .0 .few, c .before .before .before .before .pre .1)
+element-copy-out-v c = omega (arith, c .before .loop .inv .1, entry-of-in-loop c .pre .0 .few, entry-of-in-loop c .pre .1)
 
 add-i : tie.Need-add-i Inv-loop μ-loop
 add-i c = omega arith
 
 put-name-requires : tie.Need-put-name-requires Inv-loop μ-loop
 put-name-requires c κs =
-    let l = c .before .before .before .before in
-    let p = l .before .before .before .before .pre in
+    let l = in-loop-of-put-name-arg c in
+    let p = entry-of-in-loop l .pre in
     (p .0, omega (arith, l .loop-test .taken, l .before .loop .inv .1, p .1))
 
 loop-less : tie.Need-loop-less Inv-loop μ-loop
@@ -41,8 +65,8 @@ loop-less c = omega arith
 
 loop-again : tie.Need-loop-again Inv-loop μ-loop
 loop-again c =
-    let l = c .before .before .before .before .before .before .before in
-    (naming-takes (l .before .loop .inv .0) (named (l .before .before .before .before)) (omega (arith, l .loop-test .taken, l .before .loop .inv .1)) (c .before .before .before .before .if1 .taken) (c .before .before .put-name .ensures), l .before .loop .inv .1)
+    let l = in-loop-of-again c in
+    (naming-takes (l .before .loop .inv .0) (named (entry-of-in-loop l)) (omega (arith, l .loop-test .taken, l .before .loop .inv .1)) (then1-of-again c .if1 .taken) (c .before .before .put-name .ensures), l .before .loop .inv .1)
 
 loop-less-2 : tie.Need-loop-less-2 Inv-loop μ-loop
 loop-less-2 c = omega arith
@@ -50,18 +74,18 @@ loop-less-2 c = omega arith
 loop-again-2 : tie.Need-loop-again-2 Inv-loop μ-loop
 loop-again-2 c =
     let l = c .before .before .before in
-    (naming-skips (l .before .loop .inv .0) (named (l .before .before .before .before)) (omega (arith, l .loop-test .taken, l .before .loop .inv .1)) (c .if1 .left), l .before .loop .inv .1)
+    (naming-skips (l .before .loop .inv .0) (named (entry-of-in-loop l)) (omega (arith, l .loop-test .taken, l .before .loop .inv .1)) (c .if1 .left), l .before .loop .inv .1)
 
 put-byte-requires : tie.Need-put-byte-requires Inv-loop μ-loop
 put-byte-requires c κs = search needs
 
 same-length : tie.Need-same-length Inv-loop μ-loop
-same-length c = c .before .before .put-byte .kept .0 ∙ put-size (c .before .before .before .before .before .loop .inv .0 .putting .put)
+same-length c = c .before .before .put-byte .kept .0 ∙ put-size (loop-of-returns c .loop .inv .0 .putting .put)
 
 returns : tie.Need-returns Inv-loop μ-loop
 returns c =
-    let l = c .before .before .before .before in
-    naming-end (l .before .loop .inv .0) (named (l .before .before .before .before)) (omega (arith, l .loop-test .left, l .before .loop .inv .1)) (c .before .before .put-byte .ensures)
+    let l = after-loop-of-returns c in
+    naming-end (l .before .loop .inv .0) (named (entry-of-after-loop l)) (omega (arith, l .loop-test .left, l .before .loop .inv .1)) (c .before .before .put-byte .ensures)
 
 pub put-names-spec : {M : Type 1} → statement M
 put-names-spec =

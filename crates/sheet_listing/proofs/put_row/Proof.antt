@@ -14,14 +14,38 @@ Inv-loop out₀ at rows a e end₀ i₀ out end i = Lining out₀ out at rows a 
 abbrev μ-loop : tie.MeasureT-loop
 μ-loop out₀ at rows a e end₀ i₀ out end i = e - i
 
+-- ---- places
+abbrev entry-of-in-loop : tie.In-loop Inv-loop μ-loop → tie.Start Inv-loop μ-loop
+entry-of-in-loop c = c .before .before .before .before
+
+abbrev entry-of-put-field-arg : tie.After-put-field-arg Inv-loop μ-loop → tie.Start Inv-loop μ-loop
+entry-of-put-field-arg c = entry-of-in-loop (c .before)
+
+abbrev entry-of-read-put-field : tie.After-shared-slice-known2 Inv-loop μ-loop → tie.Start Inv-loop μ-loop
+entry-of-read-put-field c = entry-of-put-field-arg (c .before)
+
+abbrev in-loop-of-put-field : tie.After-put-field Inv-loop μ-loop → tie.In-loop Inv-loop μ-loop
+in-loop-of-put-field c = c .before .before .before
+
+abbrev in-loop-of-again : tie.After-slice-known2 Inv-loop μ-loop → tie.In-loop Inv-loop μ-loop
+in-loop-of-again c = in-loop-of-put-field (c .before .before)
+
+abbrev after-loop-of-returns : tie.After-slice-known3 Inv-loop μ-loop → tie.After-loop Inv-loop μ-loop
+after-loop-of-returns c = c .before .before .before .before
+
+abbrev loop-of-returns : tie.After-slice-known3 Inv-loop μ-loop → tie.At-loop Inv-loop μ-loop
+loop-of-returns c = after-loop-of-returns c .before
+
+-- ---- end of places
+
 loop-holds : tie.Need-loop-holds Inv-loop μ-loop
 loop-holds c = lining-start _ _ _ _ _ (c .before .before .pre .ordered)
 
 mul-put-field : tie.Need-mul-put-field Inv-loop μ-loop
-mul-put-field c = omega (arith, c .before .before .before .before .before .good, c .before .before .before .before .before .pre .ends)
+mul-put-field c = omega (arith, entry-of-put-field-arg c .good, entry-of-put-field-arg c .pre .ends)
 
 shared-slice-read-put-field : tie.Need-shared-slice-read-put-field Inv-loop μ-loop
-shared-slice-read-put-field c = omega (arith, c .before .before .before .before .before .before .pre .ends)
+shared-slice-read-put-field c = omega (arith, entry-of-read-put-field c .pre .ends)
 
 put-field-requires : tie.Need-put-field-requires Inv-loop μ-loop
 put-field-requires c κs = search needs
@@ -34,17 +58,17 @@ loop-less c = omega arith
 
 loop-again : tie.Need-loop-again Inv-loop μ-loop
 loop-again c =
-    let l = c .before .before .before .before .before in
-    lining-more (l .before .loop .inv) (l .loop-test .taken) (l .before .before .before .before .pre .ends) (c .before .before .put-field .ensures)
+    let l = in-loop-of-again c in
+    lining-more (l .before .loop .inv) (l .loop-test .taken) (entry-of-in-loop l .pre .ends) (c .before .before .put-field .ensures)
 
 put-byte-requires : tie.Need-put-byte-requires Inv-loop μ-loop
 put-byte-requires c κs = search needs
 
 same-length : tie.Need-same-length Inv-loop μ-loop
-same-length c = c .before .before .put-byte .kept .0 ∙ put-size (c .before .before .before .before .before .loop .inv .putting .put)
+same-length c = c .before .before .put-byte .kept .0 ∙ put-size (loop-of-returns c .loop .inv .putting .put)
 
 returns : tie.Need-returns Inv-loop μ-loop
-returns c = lining-end (c .before .before .before .before .before .loop .inv) (c .before .before .before .before .loop-test .left) (c .before .before .put-byte .ensures)
+returns c = lining-end (loop-of-returns c .loop .inv) (after-loop-of-returns c .loop-test .left) (c .before .before .put-byte .ensures)
 
 pub put-row-spec : {M : Type 1} → statement M
 put-row-spec =

@@ -12,6 +12,24 @@ Inv-loop out₀ at rows extent picks k₀ i₀ out k i = Rowing out₀ out at ro
 abbrev μ-loop : tie.MeasureT-loop
 μ-loop out₀ at rows extent picks k₀ i₀ out k i = extent - i
 
+-- ---- places
+abbrev entry-of-in-loop : tie.In-loop Inv-loop μ-loop → tie.Start Inv-loop μ-loop
+entry-of-in-loop c = c .before .before .before .before
+
+abbrev entry-of-put-row-arg : tie.After-put-row-arg Inv-loop μ-loop → tie.Start Inv-loop μ-loop
+entry-of-put-row-arg c = entry-of-in-loop (c .before .before)
+
+abbrev row-end-of-again : tie.After-slice-known2 Inv-loop μ-loop → tie.After-row-end Inv-loop μ-loop
+row-end-of-again c = c .before .before .before .before
+
+abbrev in-loop-of-again : tie.After-slice-known2 Inv-loop μ-loop → tie.In-loop Inv-loop μ-loop
+in-loop-of-again c = row-end-of-again c .before
+
+abbrev entry-of-again : tie.After-slice-known2 Inv-loop μ-loop → tie.Start Inv-loop μ-loop
+entry-of-again c = in-loop-of-again c .before .before .before .before
+
+-- ---- end of places
+
 loop-holds : tie.Need-loop-holds Inv-loop μ-loop
 loop-holds c = rowing-start _ _ _ _ _
 
@@ -21,16 +39,16 @@ row-end-requires c κs = c .before .loop .inv .upTo
 put-row-requires : tie.Need-put-row-requires Inv-loop μ-loop
 put-row-requires c κs =
     let e = c .before .row-end .ensures in
-    record { ordered = omega (arith, c .before .before .loop-test .taken); ends = omega (arith, c .before .before .before .before .before .before .pre .1) }
+    record { ordered = omega (arith, c .before .before .loop-test .taken); ends = omega (arith, entry-of-put-row-arg c .pre .1) }
 
 loop-less : tie.Need-loop-less Inv-loop μ-loop
-loop-less c = let e = c .before .before .before .before .row-end .ensures in omega (arith, c .before .before .before .before .before .loop-test .taken, c .before .before .before .before .before .before .before .before .before .pre .0)
+loop-less c = let e = row-end-of-again c .row-end .ensures in omega (arith, in-loop-of-again c .loop-test .taken, entry-of-again c .pre .0)
 
 loop-again : tie.Need-loop-again Inv-loop μ-loop
 loop-again c =
-    let l = c .before .before .before .before .before in
-    let p = l .before .before .before .before .pre in
-    rowing-more (l .before .loop .inv) (p .0) (p .1) (l .loop-test .taken) (c .before .before .before .before .row-end .ensures) (c .before .before .put-row .ensures)
+    let l = in-loop-of-again c in
+    let p = entry-of-in-loop l .pre in
+    rowing-more (l .before .loop .inv) (p .0) (p .1) (l .loop-test .taken) (row-end-of-again c .row-end .ensures) (c .before .before .put-row .ensures)
 
 same-length : tie.Need-same-length Inv-loop μ-loop
 same-length c = put-size (c .before .loop .inv .putting .put)

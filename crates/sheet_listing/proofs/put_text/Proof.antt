@@ -14,11 +14,26 @@ Inv-loop out₀ at s a e k₀ i₀ out k i = Putting out₀ out at (slice a e s)
 abbrev μ-loop : tie.MeasureT-loop
 μ-loop out₀ at s a e k₀ i₀ out k i = e - i
 
+-- ---- places
+abbrev entry-of-in-loop : tie.In-loop Inv-loop μ-loop → tie.Start Inv-loop μ-loop
+entry-of-in-loop c = c .before .before .before .before
+
+abbrev entry-of-read-put-byte : tie.After-shared-slice-known2 Inv-loop μ-loop → tie.Start Inv-loop μ-loop
+entry-of-read-put-byte c = entry-of-in-loop (c .before .before)
+
+abbrev in-loop-of-put-byte : tie.After-put-byte Inv-loop μ-loop → tie.In-loop Inv-loop μ-loop
+in-loop-of-put-byte c = c .before .before .before
+
+abbrev in-loop-of-again : tie.After-slice-known2 Inv-loop μ-loop → tie.In-loop Inv-loop μ-loop
+in-loop-of-again c = in-loop-of-put-byte (c .before .before)
+
+-- ---- end of places
+
 loop-holds : tie.Need-loop-holds Inv-loop μ-loop
 loop-holds c = putting-start _ _ _
 
 shared-slice-read-put-byte : tie.Need-shared-slice-read-put-byte Inv-loop μ-loop
-shared-slice-read-put-byte c = omega (arith, c .before .before .before .before .before .before .pre .ends)
+shared-slice-read-put-byte c = omega (arith, entry-of-read-put-byte c .pre .ends)
 
 put-byte-requires : tie.Need-put-byte-requires Inv-loop μ-loop
 put-byte-requires c κs = search needs
@@ -31,8 +46,8 @@ loop-less c = omega arith
 
 loop-again : tie.Need-loop-again Inv-loop μ-loop
 loop-again c =
-    let l = c .before .before .before .before .before in
-    putting-byte (putting-same (slice-next _ _ _ (l .loop-test .taken) (l .before .before .before .before .pre .ends)) (l .before .loop .inv)) (c .before .before .put-byte .ensures)
+    let l = in-loop-of-again c in
+    putting-byte (putting-same (slice-next _ _ _ (l .loop-test .taken) (entry-of-in-loop l .pre .ends)) (l .before .loop .inv)) (c .before .before .put-byte .ensures)
 
 same-length : tie.Need-same-length Inv-loop μ-loop
 same-length c = put-size (c .before .loop .inv .put)

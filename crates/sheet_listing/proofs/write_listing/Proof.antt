@@ -7,6 +7,18 @@ use Rattle.sheet_listing.proofs.Ending.{finished-listed}
 use Rattle.sheet_listing.proofs.write_listing.Statement.{statement}
 use Rattle.sheet_listing.proofs.write_listing.Tie as tie
 
+-- ---- places
+abbrev put-rows-of-finish : tie.After-finish → tie.After-put-rows
+put-rows-of-finish c = c .before .before .before .before
+
+abbrev put-rows-of-returns : tie.After-slice-known4 → tie.After-put-rows
+put-rows-of-returns c = put-rows-of-finish (c .before .before)
+
+abbrev put-names-of-returns : tie.After-slice-known4 → tie.After-put-names
+put-names-of-returns c = put-rows-of-returns c .before .before .before .before
+
+-- ---- end of places
+
 put-names-requires : tie.Need-put-names-requires
 put-names-requires c κs = search needs
 
@@ -21,7 +33,7 @@ same-length c = search needs
 
 returns : tie.Need-returns
 unfolding listing
-returns c = c .before .before .finish .ensures ∙ finished-listed (put-then (c .before .before .before .before .before .before .before .before .before .before .put-names .ensures) (c .before .before .before .before .before .before .put-rows .ensures))
+returns c = c .before .before .finish .ensures ∙ finished-listed (put-then (put-names-of-returns c .put-names .ensures) (put-rows-of-returns c .put-rows .ensures))
 
 pub write-listing-spec : {M : Type 1} → statement M
 write-listing-spec =

@@ -8,6 +8,24 @@ use Rattle.sheet_listing.proofs.Ending.{finished-listed}
 use Rattle.sheet_listing.proofs.write_refusal.Statement.{statement}
 use Rattle.sheet_listing.proofs.write_refusal.Tie as tie
 
+-- ---- places
+abbrev put-byte-of-finish : tie.After-finish → tie.After-put-byte
+put-byte-of-finish c = c .before .before .before .before
+
+abbrev put-byte-of-returns : tie.After-slice-known6 → tie.After-put-byte
+put-byte-of-returns c = put-byte-of-finish (c .before .before)
+
+abbrev put-field2-of-returns : tie.After-slice-known6 → tie.After-put-field2
+put-field2-of-returns c = put-byte-of-returns c .before .before .before .before
+
+abbrev put-field-of-returns : tie.After-slice-known6 → tie.After-put-field
+put-field-of-returns c = put-field2-of-returns c .before .before .before .before
+
+abbrev put-text-of-returns : tie.After-slice-known6 → tie.After-put-text
+put-text-of-returns c = put-field-of-returns c .before .before .before .before
+
+-- ---- end of places
+
 put-text-requires : tie.Need-put-text-requires
 put-text-requires c κs = search needs
 
@@ -32,7 +50,7 @@ returns c =
     c .before .before .finish .ensures ∙
     finished-listed
     (put-same (refusal-text _ _ refl)
-    (put-then (put-then (put-then (c .before .before .before .before .before .before .before .before .before .before .before .before .before .before .before .before .before .before .put-text .ensures) (c .before .before .before .before .before .before .before .before .before .before .before .before .before .before .put-field .ensures)) (c .before .before .before .before .before .before .before .before .before .before .put-field2 .ensures)) (c .before .before .before .before .before .before .put-byte .ensures)))
+    (put-then (put-then (put-then (put-text-of-returns c .put-text .ensures) (put-field-of-returns c .put-field .ensures)) (put-field2-of-returns c .put-field2 .ensures)) (put-byte-of-returns c .put-byte .ensures)))
 
 pub write-refusal-spec : {M : Type 1} → statement M
 write-refusal-spec =
