@@ -3,3 +3,4 @@ pub mod Checks
 pub mod Feed
 pub mod Pairs
 pub mod Words
+pub mod Written

@@ -1,15 +1,16 @@
 -- Feed: the tables that the words of a feed give, and the check of a feed (document 01, 'Feed and drawing', refusals 1 to 4).
 --
--- In order: the parts of a feed; its tables; the check, in document 01's order. A word that is not there reads as 0.
+-- In order: the parts of a feed; its tables; the words of tables; the check, in document 01's order. A word that is not there reads as 0.
 -- Assumes nothing.
 use Prim.Native.Nat.{ℕ, _+_, _*_, _-_}
 use mathlib.Core.Bool.{Bool, true, _&&_, not, _||_}
-use mathlib.Core.List.{List, [], _∷_}
+use mathlib.Core.List.{List, [], _∷_, _++_, map}
 use lib.Dec.{eqb, leb, ltb}
 use lib.ListN.{length, getD, take, drop}
 use Rattle.tables.specs.declared.Pair.{Pair}
 use Rattle.tables.specs.Order.{Table, pair, comparePair, isLess}
 use Rattle.tables.specs.Lists.{total}
+use Rattle.tables.specs.Slices.{tablesWords}
 use Rattle.answers.specs.Verdict.{Verdict, accepted, unless, _then_}
 
 -- ---- the parts
@@ -53,6 +54,13 @@ classTable feed k = getD (take (classCount feed) (tables feed)) k []
 
 unfoldable pub labelTable : List ℕ → ℕ → Table
 labelTable feed k = getD (drop (classCount feed) (tables feed)) k []
+
+-- ---- the words of these class tables and these label tables
+
+unfoldable pub feedWords : List Table → List Table → List ℕ
+feedWords classes labels =
+    let all = classes ++ labels in
+    length classes ∷ length labels ∷ (map length all ++ tablesWords all)
 
 -- ---- the check
 
