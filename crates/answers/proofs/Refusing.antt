@@ -1,17 +1,20 @@
 -- Refusing: an answer other than `Accepted` refuses.
+--
+-- In order: that it refuses; an answer and a check after it.
 -- Assumes nothing.
 use Prim.{tt}
-use mathlib.Core.Path.{_≡_, refl}
+use mathlib.Core.Path.{_≡_, refl, sym}
 use mathlib.Core.Bool.{false}
 use mathlib.Core.List.{List, [], _∷_}
 use Prim.Native.Nat.{ℕ}
 use types.Run.{OneOf, miss}
 use denote.Enum.Declared.{tagOf}
-use Rattle.answers.specs.Verdict.{isAccepted}
+use Rattle.answers.specs.Verdict.{Verdict, _then_, isAccepted}
 use Rattle.answers.specs.Answers.{verdictOf}
 use Rattle.answers.specs.declared.Answer.{Answer}
 use Rattle.answers.specs.declared.Answer.the-variants.{Accepted, FeedLength, Ceiling, Ascent, Sides, DrawingLength, Missing, Unpicked, ListLength, Invalid, Full, Large, TooMany, Short, Breach}
 use Rattle.answers.proofs.Answer.{the-type}
+use Rattle.answers.proofs.Verdict.{refused-first}
 
 -- the tags of the refusals, as the compiler numbers them
 abbrev pub refusals : List ℕ
@@ -34,3 +37,11 @@ refuses (Large i) o = refl
 refuses TooMany o = refl
 refuses (Short n) o = refl
 refuses (Breach line) o = refl
+
+-- an answer and a check after it: one that accepts leaves the verdict to the check, any other stands
+pub leaves : {a : Answer} (v : Verdict) → a ≡ Accepted → v ≡ verdictOf a then v
+unfolding verdictOf _then_
+leaves v e = rw e
+
+pub stands : (a : Answer) (v : Verdict) → OneOf refusals (tagOf the-type a) → verdictOf a ≡ verdictOf a then v
+stands a v o = sym (refused-first (verdictOf a) v (sym (refuses a o)))

@@ -1,7 +1,7 @@
 -- Checks: the check of the counts, of the tables and of a whole feed, in the steps in which the code takes them.
 --
--- In order: the counts, from one of them on; what counts that were accepted are; the tables, from one of them on; classes, then labels; the first two
--- words; the whole.
+-- In order: the counts, from one of them on; the answer for the counts; what counts that were accepted are; the tables, from one of them on;
+-- classes, then labels; the first two words; the whole.
 -- Assumes nothing.
 use mathlib.Core.Path.{_≡_, refl, sym, _∙_, ap}
 use mathlib.Core.Bool.{Bool, true, false}
@@ -10,10 +10,11 @@ use Prim.Native.Nat.{ℕ, zero, suc, _+_, _*_, _-_, _<_, _≤_}
 use native.Mathlib.Nat.{zero-add, add-zero, add-assoc}
 use native.Mathlib.Decide.{decLt}
 use native.Mathlib.Omega.{arith}
-use lib.Dec.{eqb, ltb}
+use lib.Dec.{eqb, leb, ltb}
 use lib.ListN.{length, getD, take, drop, drop-of-length-le, take-append-drop}
 use lib.Seq.{length-take-le}
 use borrow.Author.Tests.{lt-ltb, le-ltb, lt-leb, le-leb, eq-eqb, ne-eqb}
+use Rattle.limits.specs.Limits.{mostClasses, mostLabels, mostTables, mostTablePairs}
 use Rattle.answers.specs.Verdict.{Verdict, accepted, refused, unless, _then_}
 use Rattle.tables.specs.Lists.{total}
 use Rattle.tables.specs.Order.{Table}
@@ -24,7 +25,6 @@ use Rattle.feed.specs.inner.Parts.{countsFound, Exact}
 use Rattle.feed.specs.declared.Counts.{Counts}
 use Rattle.feed.specs.declared.Counts.the-variants.{Sum, Over}
 use Rattle.feed.proofs.Words.{length-table, length-counts, counts-next, tablesFrom, tables-from-start, tables-next, Ends, ends-inside}
-use Rattle.feed.proofs.Answers.{counts-accepted, counts-refused}
 
 -- the check of the counts, from the count k on, with the sum of those before it
 abbrev pub countsLeft : List ℕ → ℕ → ℕ → Counts
@@ -34,15 +34,15 @@ pub counts-start : (feed : List ℕ) → countsLeft feed 0 0 ≡ countsFound (ch
 counts-start feed = rw zero-add
 
 module _ (feed : List ℕ) (counted : 2 + tableCount feed ≤ length feed) (sum k : ℕ) where
-  pub counts-over : k < tableCount feed → 4096 < getD feed (2 + k) 0 → Over (2 + k) ≡ countsLeft feed sum k
+  pub counts-over : k < tableCount feed → mostTablePairs < getD feed (2 + k) 0 → Over (2 + k) ≡ countsLeft feed sum k
   unfolding checkCounts unless _then_ countsFound
-  counts-over h l = rw (counts-next feed counted k h, lt-leb (getD feed (2 + k) 0) 4096 l)
+  counts-over h l = rw (counts-next feed counted k h, lt-leb (getD feed (2 + k) 0) mostTablePairs l)
 
-  pub counts-pass : k < tableCount feed → getD feed (2 + k) 0 ≤ 4096 → countsLeft feed (sum + getD feed (2 + k) 0) (k + 1) ≡ countsLeft feed sum k
+  pub counts-pass : k < tableCount feed → getD feed (2 + k) 0 ≤ mostTablePairs → countsLeft feed (sum + getD feed (2 + k) 0) (k + 1) ≡ countsLeft feed sum k
   unfolding checkCounts unless _then_ total
   counts-pass h l =
       let e : 2 + k + 1 ≡ 2 + (k + 1) = omega arith in
-      rw (counts-next feed counted k h, le-leb (getD feed (2 + k) 0) 4096 l, e, add-assoc)
+      rw (counts-next feed counted k h, le-leb (getD feed (2 + k) 0) mostTablePairs l, e, add-assoc)
 
   pub counts-end : tableCount feed ≤ k → Sum sum ≡ countsLeft feed sum k
   unfolding checkCounts countsFound total
@@ -50,8 +50,24 @@ module _ (feed : List ℕ) (counted : 2 + tableCount feed ≤ length feed) (sum 
       let l : length (counts feed) ≤ k = rw (length-counts feed counted) h in
       rw (drop-of-length-le (counts feed) l, add-zero)
 
+-- the answer for the counts, and their check
+pub counts-accepted : (v : Verdict) (t : ℕ) {s : ℕ} → Sum s ≡ countsFound v t → (v ≡ accepted) × (s ≡ t)
+unfolding countsFound
+counts-accepted accepted t e = (refl, cc)
+counts-accepted (refused n p) t e = (cc, cc)
+
+pub counts-refused : (at : ℕ) (ns : List ℕ) (t : ℕ) {p : ℕ} → Over p ≡ countsFound (checkCounts at ns) t → refused 2 p ≡ checkCounts at ns
+unfolding checkCounts countsFound unless _then_
+counts-refused at [] t e = cc
+counts-refused at (n ∷ ns) t {p} e = step (leb n mostTablePairs) (counts-refused (at + 1) ns t) e
+  where
+    step : (b : Bool) → (Over p ≡ countsFound (checkCounts (at + 1) ns) t → refused 2 p ≡ checkCounts (at + 1) ns) →
+        Over p ≡ countsFound (unless b 2 at then checkCounts (at + 1) ns) t → refused 2 p ≡ unless b 2 at then checkCounts (at + 1) ns
+    step true r d = r d
+    step false r d = cc
+
 -- counts that were accepted are small, and so is their sum
-pub counts-small : (at : ℕ) (ns : List ℕ) → checkCounts at ns ≡ accepted → total ns ≤ 4096 * length ns
+pub counts-small : (at : ℕ) (ns : List ℕ) → checkCounts at ns ≡ accepted → total ns ≤ mostTablePairs * length ns
 unfolding checkCounts total
 counts-small at [] h = omega arith
 counts-small at (n ∷ ns) h =
@@ -59,7 +75,7 @@ counts-small at (n ∷ ns) h =
     let l = counts-small (at + 1) ns (r .1) in
     omega (arith, r .0)
 
-pub count-small : (at : ℕ) (ns : List ℕ) (k : ℕ) → checkCounts at ns ≡ accepted → getD ns k 0 ≤ 4096
+pub count-small : (at : ℕ) (ns : List ℕ) (k : ℕ) → checkCounts at ns ≡ accepted → getD ns k 0 ≤ mostTablePairs
 unfolding checkCounts
 count-small at [] k h = omega arith
 count-small at (n ∷ ns) zero h = simp (then-accepted, unless-accepted, leb-is) at h .0
@@ -141,24 +157,24 @@ module _ (feed : List ℕ) where
   unfolding checkFeed unless _then_
   no-head h = rw (lt-leb 2 (length feed) h)
 
-  pub many-classes : 2 ≤ length feed → 32 < classCount feed → refused 2 0 ≡ checkFeed feed
+  pub many-classes : 2 ≤ length feed → mostClasses < classCount feed → refused 2 0 ≡ checkFeed feed
   unfolding checkFeed unless _then_
-  many-classes a h = rw (le-leb 2 (length feed) a, lt-leb (classCount feed) 32 h)
+  many-classes a h = rw (le-leb 2 (length feed) a, lt-leb (classCount feed) mostClasses h)
 
-  pub many-labels : 2 ≤ length feed → classCount feed ≤ 32 → 64 < labelCount feed → refused 2 1 ≡ checkFeed feed
+  pub many-labels : 2 ≤ length feed → classCount feed ≤ mostClasses → mostLabels < labelCount feed → refused 2 1 ≡ checkFeed feed
   unfolding checkFeed unless _then_
-  many-labels a b h = rw (le-leb 2 (length feed) a, le-leb (classCount feed) 32 b, lt-leb (labelCount feed) 64 h)
+  many-labels a b h = rw (le-leb 2 (length feed) a, le-leb (classCount feed) mostClasses b, lt-leb (labelCount feed) mostLabels h)
 
-  pub no-counts : 2 ≤ length feed → classCount feed ≤ 32 → labelCount feed ≤ 64 → length feed < 2 + tableCount feed → refused 1 0 ≡ checkFeed feed
+  pub no-counts : 2 ≤ length feed → classCount feed ≤ mostClasses → labelCount feed ≤ mostLabels → length feed < 2 + tableCount feed → refused 1 0 ≡ checkFeed feed
   unfolding checkFeed unless _then_
   no-counts a b c h =
-      rw (le-leb 2 (length feed) a, le-leb (classCount feed) 32 b, le-leb (labelCount feed) 64 c, lt-leb (2 + tableCount feed) (length feed) h)
+      rw (le-leb 2 (length feed) a, le-leb (classCount feed) mostClasses b, le-leb (labelCount feed) mostLabels c, lt-leb (2 + tableCount feed) (length feed) h)
 
 -- the check of a feed whose first two words passed
 pub record Head (feed : List ℕ) : Type 0 where
   pub headed : 2 ≤ length feed
-  pub fewClasses : classCount feed ≤ 32
-  pub fewLabels : labelCount feed ≤ 64
+  pub fewClasses : classCount feed ≤ mostClasses
+  pub fewLabels : labelCount feed ≤ mostLabels
   pub counted : 2 + tableCount feed ≤ length feed
 
 module _ (feed : List ℕ) (h : Head feed) where
@@ -168,7 +184,7 @@ module _ (feed : List ℕ) (h : Head feed) where
       ≡ checkFeed feed
   unfolding checkFeed unless _then_
   after-head =
-      rw (le-leb 2 (length feed) (h .headed), le-leb (classCount feed) 32 (h .fewClasses), le-leb (labelCount feed) 64 (h .fewLabels), le-leb (2 + tableCount feed) (length feed) (h .counted))
+      rw (le-leb 2 (length feed) (h .headed), le-leb (classCount feed) mostClasses (h .fewClasses), le-leb (labelCount feed) mostLabels (h .fewLabels), le-leb (2 + tableCount feed) (length feed) (h .counted))
 
   pub count-over : {p : ℕ} → Over p ≡ countsFound (checkCounts 2 (counts feed)) (total (counts feed)) → refused 2 p ≡ checkFeed feed
   unfolding _then_
@@ -186,7 +202,7 @@ module _ (feed : List ℕ) (h : Head feed) where
     unfolding unless _then_
     right-length l = rw (← after-head, passed .0, ← passed .1, eq-eqb (length feed) (2 + tableCount feed + 2 * s) l)
 
-    pub sum-small : s ≤ 393216
+    pub sum-small : s ≤ mostTables * mostTablePairs
     unfolding tableCount
     sum-small = omega (arith, h .fewClasses, h .fewLabels, passed .1, counts-small 2 (counts feed) (passed .0), length-counts feed (h .counted))
 

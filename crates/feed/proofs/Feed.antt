@@ -14,6 +14,7 @@ use native.Mathlib.Decide.{decLt}
 use lib.ListN.{length, getD, take, drop, length-take, List·getD-eq-default}
 use lib.Seq.{getD-drop}
 use lib.Dec.{ltb}
+use Rattle.limits.specs.Limits.{mostClasses, mostLabels, mostTablePairs, largestObject}
 use Rattle.tables.specs.declared.Pair.{Pair}
 use Rattle.tables.specs.Lists.{_∈_, total}
 use Rattle.tables.specs.Order.{Ascending, none, more, Table, pair, comparePair}
@@ -34,7 +35,7 @@ if-then false b = (λ e t. cc, λ f. refl)
 
 module _ (isClass : Bool) where
   record Checked (at : ℕ) (before : List Pair) (p : Pair) (ps : Table) : Type 0 where
-    small : (p .left ≤ 65535) × (p .right ≤ 65535)
+    small : (p .left ≤ largestObject) × (p .right ≤ largestObject)
     rises : above before p ≡ true
     sides : isClass ≡ true → p .left ≡ p .right
     rest : checkPairs isClass at (p ∷ []) ps ≡ accepted
@@ -57,14 +58,14 @@ module _ (isClass : Bool) where
   pairs-ascend at (p ∷ ps) h = ascends-after (at + 2) p ps (checked at [] p ps h .rest)
 
   pair-checked : (at : ℕ) (before : List Pair) {ps : Table} {p : Pair} → checkPairs isClass at before ps ≡ accepted → p ∈ ps →
-      (p .left ≤ 65535) × (p .right ≤ 65535) × (isClass ≡ true → p .left ≡ p .right)
+      (p .left ≤ largestObject) × (p .right ≤ largestObject) × (isClass ≡ true → p .left ≡ p .right)
   pair-checked at before h (here {x = q} {xs = qs} e) =
       let c = checked at before q qs h in
       rw e (c .small .0, c .small .1, c .sides)
   pair-checked at before h (there {x = q} {xs = qs} m) = pair-checked (at + 2) (q ∷ []) (checked at before q qs h .rest) m
 
 -- counts that were checked
-count-checked : (at : ℕ) {ns : List ℕ} {n : ℕ} → checkCounts at ns ≡ accepted → n ∈ ns → n ≤ 4096
+count-checked : (at : ℕ) {ns : List ℕ} {n : ℕ} → checkCounts at ns ≡ accepted → n ∈ ns → n ≤ mostTablePairs
 unfolding checkCounts
 count-checked at h (here e) = rw e (simp (then-accepted, unless-accepted, leb-is) at h .0)
 count-checked at h (there m) = count-checked (at + 1) (simp then-accepted at h .1) m
@@ -86,8 +87,8 @@ table-checked c at h (later {x = s} a) =
 -- what holds of every table of a feed that was accepted
 pub record Sound (t : Table) : Type 0 where
   pub ascends : Ascending comparePair t
-  pub small : {u v : ℕ} → pair u v ∈ t → (u ≤ 65535) × (v ≤ 65535)
-  pub short : length t ≤ 4096
+  pub small : {u v : ℕ} → pair u v ∈ t → (u ≤ largestObject) × (v ≤ largestObject)
+  pub short : length t ≤ mostTablePairs
 
 sound-empty : Sound []
 sound-empty = record { ascends = none; small = λ m. absurd (List·Memᴰ·not-nil m); short = omega arith }
@@ -95,8 +96,8 @@ sound-empty = record { ascends = none; small = λ m. absurd (List·Memᴰ·not-n
 -- the parts of the check of a feed
 pub record Accepted (feed : List ℕ) : Type 0 where
   pub headed : 2 ≤ length feed
-  pub fewClasses : classCount feed ≤ 32
-  pub fewLabels : labelCount feed ≤ 64
+  pub fewClasses : classCount feed ≤ mostClasses
+  pub fewLabels : labelCount feed ≤ mostLabels
   pub counted : 2 + tableCount feed ≤ length feed
   pub countsChecked : checkCounts 2 (counts feed) ≡ accepted
   pub exact : length feed ≡ 2 + tableCount feed + 2 * total (counts feed)

@@ -1,4 +1,3 @@
-pub mod Answers
 pub mod Checks
 pub mod Feed
 pub mod Pairs

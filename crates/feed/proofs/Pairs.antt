@@ -11,6 +11,7 @@ use native.Mathlib.Omega.{arith}
 use lib.Dec.{eqb, leb, ltb}
 use lib.ListN.{length, take, drop}
 use borrow.Author.Tests.{lt-ltb, le-ltb}
+use Rattle.limits.specs.Limits.{largestObject}
 use Rattle.tables.specs.declared.Pair.{Pair}
 use Rattle.tables.specs.Order.{comparePair, isLess, next}
 use Rattle.answers.specs.Verdict.{Verdict, accepted, refused, unless, _then_}
@@ -58,7 +59,7 @@ module _ (feed : List ℕ) (at j : ℕ) (p : Pair) where
 
 -- the check of a pair
 abbrev pub Ordered : List Pair → Pair → Bool
-Ordered b p = leb (p .left) 65535 && leb (p .right) 65535 && above b p
+Ordered b p = leb (p .left) largestObject && leb (p .right) largestObject && above b p
 
 abbrev pub Even : Bool → Pair → Bool
 Even class p = not class || eqb (p .left) (p .right)

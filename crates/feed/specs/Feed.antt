@@ -7,6 +7,7 @@ use mathlib.Core.Bool.{Bool, true, _&&_, not, _||_}
 use mathlib.Core.List.{List, [], _∷_, _++_, map}
 use lib.Dec.{eqb, leb, ltb}
 use lib.ListN.{length, getD, take, drop}
+use Rattle.limits.specs.Limits.{mostClasses, mostLabels, mostTablePairs, largestObject}
 use Rattle.tables.specs.declared.Pair.{Pair}
 use Rattle.tables.specs.Order.{Table, pair, comparePair, isLess}
 use Rattle.tables.specs.Lists.{total}
@@ -67,7 +68,7 @@ feedWords classes labels =
 -- "2: C, L or a count over its ceiling (that word)"
 unfoldable pub checkCounts : ℕ → List ℕ → Verdict
 checkCounts at [] = accepted
-checkCounts at (n ∷ ns) = unless (leb n 4096) 2 at then checkCounts (at + 1) ns
+checkCounts at (n ∷ ns) = unless (leb n mostTablePairs) 2 at then checkCounts (at + 1) ns
 
 -- p is above the pair before it, of which there is at most one
 unfoldable pub above : List Pair → Pair → Bool
@@ -78,7 +79,7 @@ above (q ∷ qs) p = isLess (comparePair q p)
 -- "4: class pair with unequal sides (left word)"; at one pair 3 comes before 4
 unfoldable pub checkPair : Bool → ℕ → List Pair → Pair → Verdict
 checkPair isClass at before p =
-    unless (leb (p .left) 65535 && leb (p .right) 65535 && above before p) 3 at
+    unless (leb (p .left) largestObject && leb (p .right) largestObject && above before p) 3 at
     then unless (not isClass || eqb (p .left) (p .right)) 4 at
 
 unfoldable pub checkPairs : Bool → ℕ → List Pair → Table → Verdict
@@ -95,8 +96,8 @@ checkTables c at (t ∷ ts) = checkPairs (ltb 0 c) at [] t then checkTables (c -
 unfoldable pub checkFeed : List ℕ → Verdict
 checkFeed feed =
     unless (leb 2 (length feed)) 1 0
-    then unless (leb (classCount feed) 32) 2 0
-    then unless (leb (labelCount feed) 64) 2 1
+    then unless (leb (classCount feed) mostClasses) 2 0
+    then unless (leb (labelCount feed) mostLabels) 2 1
     then unless (leb (2 + tableCount feed) (length feed)) 1 0
     then checkCounts 2 (counts feed)
     then unless (eqb (length feed) (2 + tableCount feed + 2 * total (counts feed))) 1 0

@@ -1,4 +1,9 @@
 // The feed: classes and labelled pairs of regions, as a camera writes them.
+use answers::Answer;
+use limits::CLASSES;
+use limits::LABELS;
+use limits::OBJECT;
+use limits::TABLE_PAIRS;
 use tables::Pair;
 ghost use mathlib.Core.Path.{_≡_};
 ghost use mathlib.Core.Bool.{_&&_};
@@ -8,24 +13,10 @@ ghost use lib.Dec.{leb};
 ghost use lib.ListN.{length, take, drop, getD};
 ghost use Rattle.tables.specs.Order.{comparePair, isLess};
 ghost use Rattle.tables.specs.Lists.{total};
-ghost use Rattle.answers.specs.Verdict.{accepted};
+ghost use Rattle.answers.specs.Answers.{verdictOf};
+ghost use Rattle.limits.specs.Limits.{largestObject};
 ghost use Rattle.feed.specs.Feed.{classCount, labelCount, tableCount, counts, tables, classTable, labelTable, pairsOf, above, checkCounts, checkPair, checkPairs, checkTables, checkFeed};
-ghost use Rattle.feed.specs.Answers.{feedVerdict};
-ghost use Rattle.feed.specs.inner.Parts.{pairFrom, before, countsFound, Exact, SpanOf};
-
-// What the check of a feed finds. Each refusal has its number in document 01 and, but for a wrong length, its place.
-pub enum FeedCheck {
-    // 0: the feed is accepted.
-    Accepted,
-    // 1: fewer than 2 words, fewer than 2 + C + L, or not exactly the length that the counts give.
-    Length,
-    // 2: C, L or a count, the word at this place, is over its ceiling.
-    Ceiling(u32),
-    // 3: the pair at this place has a value above 65,535, or is not above the one before it in its table.
-    Ascent(u32),
-    // 4: the class pair at this place has unequal sides.
-    Sides(u32),
-}
+ghost use Rattle.feed.specs.inner.Parts.{pairFrom, before, PairIn, TableIn, Counted, countsFound, Exact, Among, SpanOf};
 
 // What the check of the counts finds.
 enum Counts {
@@ -87,54 +78,54 @@ fn rises(feed: &[u32], at: usize, j: usize, p: Pair) -> bool
 // Whether p, the pair j of a table that starts at `at`, has values of at most 65,535 and is above the pair before it.
 fn is_ordered(feed: &[u32], at: usize, j: usize, p: Pair) -> bool
     requires { ⌜ at + 2 * j + 1 < length (now feed) ⌝ }
-    ensures { λ r. ⌜ r ≡ (leb (p .left) 65535 && leb (p .right) 65535 && above (before (now (feed .entry)) at j) p) ⌝ }
+    ensures { λ r. ⌜ r ≡ (leb (p .left) largestObject && leb (p .right) largestObject && above (before (now (feed .entry)) at j) p) ⌝ }
 {
-    if 65535 < p.left {
+    if OBJECT < p.left {
         return false;
     }
-    if 65535 < p.right {
+    if OBJECT < p.right {
         return false;
     }
     rises(feed, at, j, p)
 }
 
 // The check of the pair j of a table that starts at `at`.
-fn check_pair(feed: &[u32], class: bool, at: usize, j: usize) -> FeedCheck
-    requires { ⌜ (at + 2 * j + 1 < length (now feed)) × (length (now feed) ≤ 4294967296) ⌝ }
-    ensures { λ r. ⌜ feedVerdict r ≡ checkPair class (at + 2 * j) (before (now (feed .entry)) at j) (pairFrom (now (feed .entry)) (at + 2 * j)) ⌝ }
+fn check_pair(feed: &[u32], class: bool, at: usize, j: usize) -> Answer
+    requires { ⌜ PairIn (now feed) (at + 2 * j) ⌝ }
+    ensures { λ r. ⌜ verdictOf r ≡ checkPair class (at + 2 * j) (before (now (feed .entry)) at j) (pairFrom (now (feed .entry)) (at + 2 * j)) ⌝ }
 {
     let i = at + 2 * j;
     let p = pair_from(feed, i);
     let ordered = is_ordered(feed, at, j, p);
     let even = !class | (p.left == p.right);
     if ordered & even {
-        return FeedCheck::Accepted;
+        return Answer::Accepted;
     }
     if ordered {
-        return FeedCheck::Sides(i as u32);
+        return Answer::Sides(i as u32);
     }
-    FeedCheck::Ascent(i as u32)
+    Answer::Ascent(i as u32)
 }
 
 // The check of a table of `count` pairs that starts at `at`.
-fn check_pairs(feed: &[u32], class: bool, at: usize, count: usize) -> FeedCheck
-    requires { ⌜ (at + 2 * count ≤ length (now feed)) × (length (now feed) ≤ 4294967296) ⌝ }
-    ensures { λ r. ⌜ feedVerdict r ≡ checkPairs class at [] (take count (pairsOf (drop at (now (feed .entry))))) ⌝ }
+fn check_pairs(feed: &[u32], class: bool, at: usize, count: usize) -> Answer
+    requires { ⌜ TableIn (now feed) at count ⌝ }
+    ensures { λ r. ⌜ verdictOf r ≡ checkPairs class at [] (take count (pairsOf (drop at (now (feed .entry))))) ⌝ }
 {
     let mut j = 0;
     while j < count {
         let found = check_pair(feed, class, at, j);
-        let FeedCheck::Accepted = found else {
+        let Answer::Accepted = found else {
             return found;
         };
         j += 1;
     }
-    FeedCheck::Accepted
+    Answer::Accepted
 }
 
 // How many tables a feed has, classes and labels.
 fn table_count(feed: &[u32]) -> usize
-    requires { ⌜ (2 ≤ length (now feed)) × (tableCount (now feed) ≤ 96) ⌝ }
+    requires { ⌜ Counted (now feed) ⌝ }
     ensures { λ r. ⌜ r ≡ tableCount (now (feed .entry)) ⌝ }
 {
     word(feed, 0) + word(feed, 1)
@@ -142,7 +133,7 @@ fn table_count(feed: &[u32]) -> usize
 
 // The check of the counts, and their sum.
 fn sum_counts(feed: &[u32]) -> Counts
-    requires { ⌜ (2 + tableCount (now feed) ≤ length (now feed)) × (tableCount (now feed) ≤ 96) ⌝ }
+    requires { ⌜ Counted (now feed) ⌝ }
     ensures { λ r. ⌜ r ≡ countsFound (checkCounts 2 (counts (now (feed .entry)))) (total (counts (now (feed .entry)))) ⌝ }
 {
     let n = table_count(feed);
@@ -150,7 +141,7 @@ fn sum_counts(feed: &[u32]) -> Counts
     let mut k = 0;
     while k < n {
         let count = word(feed, 2 + k);
-        if 4096 < count {
+        if TABLE_PAIRS < count {
             return Counts::Over((2 + k) as u32);
         }
         sum += count;
@@ -160,9 +151,9 @@ fn sum_counts(feed: &[u32]) -> Counts
 }
 
 // The check of the tables of a feed whose length is that which its counts give.
-fn check_tables(feed: &[u32]) -> FeedCheck
+fn check_tables(feed: &[u32]) -> Answer
     requires { ⌜ Exact (now feed) ⌝ }
-    ensures { λ r. ⌜ feedVerdict r ≡ checkTables (classCount (now (feed .entry))) (2 + tableCount (now (feed .entry))) (tables (now (feed .entry))) ⌝ }
+    ensures { λ r. ⌜ verdictOf r ≡ checkTables (classCount (now (feed .entry))) (2 + tableCount (now (feed .entry))) (tables (now (feed .entry))) ⌝ }
 {
     let classes = word(feed, 0);
     let n = table_count(feed);
@@ -171,39 +162,39 @@ fn check_tables(feed: &[u32]) -> FeedCheck
     while k < n {
         let count = word(feed, 2 + k);
         let found = check_pairs(feed, k < classes, at, count);
-        let FeedCheck::Accepted = found else {
+        let Answer::Accepted = found else {
             return found;
         };
         at += 2 * count;
         k += 1;
     }
-    FeedCheck::Accepted
+    Answer::Accepted
 }
 
 // The check of a feed (document 01, refusals 1 to 4).
-pub fn check_feed(feed: &[u32]) -> FeedCheck
-    ensures { λ r. ⌜ feedVerdict r ≡ checkFeed (now (feed .entry)) ⌝ }
+pub fn check_feed(feed: &[u32]) -> Answer
+    ensures { λ r. ⌜ verdictOf r ≡ checkFeed (now (feed .entry)) ⌝ }
 {
     if feed.len() < 2 {
-        return FeedCheck::Length;
+        return Answer::FeedLength;
     }
     let classes = word(feed, 0);
-    if 32 < classes {
-        return FeedCheck::Ceiling(0);
+    if CLASSES < classes {
+        return Answer::Ceiling(0);
     }
     let labels = word(feed, 1);
-    if 64 < labels {
-        return FeedCheck::Ceiling(1);
+    if LABELS < labels {
+        return Answer::Ceiling(1);
     }
     let head = 2 + classes + labels;
     if feed.len() < head {
-        return FeedCheck::Length;
+        return Answer::FeedLength;
     }
     match sum_counts(feed) {
-        Counts::Over(place) => FeedCheck::Ceiling(place),
+        Counts::Over(place) => Answer::Ceiling(place),
         Counts::Sum(sum) => {
             if feed.len() != head + 2 * sum {
-                return FeedCheck::Length;
+                return Answer::FeedLength;
             }
             check_tables(feed)
         }
@@ -212,7 +203,7 @@ pub fn check_feed(feed: &[u32]) -> FeedCheck
 
 // Where the table k stands in a feed that was accepted, classes first.
 fn table_span(feed: &[u32], k: usize) -> Span
-    requires { ⌜ (checkFeed (now feed) ≡ accepted) × (k < tableCount (now feed)) ⌝ }
+    requires { ⌜ Among (now feed) (tableCount (now feed)) k ⌝ }
     ensures { λ r. ⌜ SpanOf (now (feed .entry)) (getD (tables (now (feed .entry))) k []) r ⌝ }
 {
     let mut start = 2 + table_count(feed);
@@ -229,7 +220,7 @@ fn table_span(feed: &[u32], k: usize) -> Span
 
 // Where the table of class k stands in a feed that was accepted.
 pub fn class_table(feed: &[u32], k: usize) -> Span
-    requires { ⌜ (checkFeed (now feed) ≡ accepted) × (k < classCount (now feed)) ⌝ }
+    requires { ⌜ Among (now feed) (classCount (now feed)) k ⌝ }
     ensures { λ r. ⌜ SpanOf (now (feed .entry)) (classTable (now (feed .entry)) k) r ⌝ }
 {
     table_span(feed, k)
@@ -237,7 +228,7 @@ pub fn class_table(feed: &[u32], k: usize) -> Span
 
 // Where the table of label k stands in a feed that was accepted.
 pub fn label_table(feed: &[u32], k: usize) -> Span
-    requires { ⌜ (checkFeed (now feed) ≡ accepted) × (k < labelCount (now feed)) ⌝ }
+    requires { ⌜ Among (now feed) (labelCount (now feed)) k ⌝ }
     ensures { λ r. ⌜ SpanOf (now (feed .entry)) (labelTable (now (feed .entry)) k) r ⌝ }
 {
     table_span(feed, word(feed, 0) + k)

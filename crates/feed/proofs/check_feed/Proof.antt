@@ -5,7 +5,7 @@ use native.Mathlib.Omega.{arith}
 use borrow.Author.Needs.{needs}
 use Rattle.tables.specs.Lists.{total}
 use Rattle.feed.specs.Feed.{classCount, labelCount, tableCount, counts, checkCounts}
-use Rattle.feed.specs.Answers.{feedVerdict}
+use Rattle.answers.specs.Answers.{verdictOf}
 use Rattle.feed.specs.inner.Parts.{countsFound}
 use Rattle.feed.specs.declared.Counts.the-variants.{Sum}
 use Rattle.feed.proofs.Checks.{Head, no-head, many-classes, many-labels, no-counts, count-over, wrong-length, right-length, sum-small, is-exact}
@@ -13,21 +13,21 @@ use Rattle.feed.proofs.check_feed.Statement.{statement}
 use Rattle.feed.proofs.check_feed.Tie as tie
 
 returns : tie.Need-returns
-unfolding feedVerdict
+unfolding verdictOf
 returns c = no-head (c .before .before .args .feed .now) (c .if1 .taken)
 
 word-requires : tie.Need-word-requires
 word-requires c κs = search needs
 
 returns-2 : tie.Need-returns-2
-unfolding feedVerdict classCount
+unfolding verdictOf classCount
 returns-2 c = many-classes (c .before .before .before .before .args .feed .now) (omega arith) (omega arith)
 
 word-requires-2 : tie.Need-word-requires-2
 word-requires-2 c κs = search needs
 
 returns-3 : tie.Need-returns-3
-unfolding feedVerdict classCount labelCount
+unfolding verdictOf classCount labelCount
 returns-3 c = many-labels (c .before .before .before .before .before .before .args .feed .now) (omega arith) (omega arith) (omega arith)
 
 add-head : tie.Need-add-head
@@ -37,7 +37,7 @@ add-head-2 : tie.Need-add-head-2
 add-head-2 c = search needs
 
 returns-4 : tie.Need-returns-4
-unfolding feedVerdict classCount labelCount tableCount
+unfolding verdictOf classCount labelCount tableCount
 returns-4 c = no-counts (c .before .before .before .before .before .before .before .args .feed .now) (omega arith) (omega arith) (omega arith) (omega arith)
 
 head : (c : tie.Else4) → Head (c .before .before .before .before .before .before .before .args .feed .now)
@@ -69,7 +69,7 @@ add-if5 : tie.Need-add-if5
 add-if5 c = omega (arith, small c)
 
 returns-5 : tie.Need-returns-5
-unfolding feedVerdict classCount labelCount tableCount
+unfolding verdictOf classCount labelCount tableCount
 returns-5 c =
     let at = c .before in
     wrong-length _ (head (at .before .before .before .before)) (summed at) (λ e. omega (arith, c .if5 .taken))
@@ -81,7 +81,7 @@ check-tables-requires c κs =
     is-exact _ (head (at .before .before .before .before)) (summed at) (omega arith)
 
 returns-6 : tie.Need-returns-6
-unfolding feedVerdict
+unfolding verdictOf
 returns-6 c =
     let at = c .before .before .before in
     count-over _ (head (at .before)) (sym (c .before .place .given .1) ∙ at .sum-counts .ensures)

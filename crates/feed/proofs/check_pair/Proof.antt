@@ -4,7 +4,7 @@ use Prim.Native.Nat.{_+_, _*_}
 use borrow.Author.Needs.{needs}
 use Rattle.answers.specs.Verdict.{Verdict}
 use Rattle.feed.specs.Feed.{checkPair}
-use Rattle.feed.specs.Answers.{feedVerdict}
+use Rattle.answers.specs.Answers.{verdictOf}
 use Rattle.feed.specs.inner.Parts.{before, pairFrom}
 use Rattle.feed.proofs.Pairs.{not-ordered, not-even, pair-passes}
 use Rattle.feed.proofs.check_pair.Statement.{statement}
@@ -33,21 +33,21 @@ is-ordered-requires : tie.Need-is-ordered-requires
 is-ordered-requires c κs = search needs
 
 returns : tie.Need-returns
-unfolding feedVerdict
+unfolding verdictOf
 returns c = of-words (c .before .before) (pair-passes _ _ _ _ _ (c .before .before .is-ordered .ensures) (c .if1 .taken))
 
 cast-t12 : tie.Need-cast-t12
 cast-t12 c = search needs
 
 returns-2 : tie.Need-returns-2
-unfolding feedVerdict
+unfolding verdictOf
 returns-2 c = of-words (c .before .before .before) (not-even _ _ _ _ _ (c .before .before .before .is-ordered .ensures) (c .before .if1 .left) (c .if2 .taken))
 
 cast-t13 : tie.Need-cast-t13
 cast-t13 c = search needs
 
 returns-3 : tie.Need-returns-3
-unfolding feedVerdict
+unfolding verdictOf
 returns-3 c = of-words (c .before .before .before) (not-ordered _ _ _ _ _ (c .before .before .before .is-ordered .ensures) (c .if2 .left))
 
 pub check-pair-spec : {M : Type 1} → statement M

@@ -8,8 +8,8 @@ use borrow.Author.Needs.{needs}
 use lib.ListN.{take, drop}
 use Rattle.answers.specs.Verdict.{_then_}
 use Rattle.feed.specs.Feed.{pairsOf, checkPairs}
-use Rattle.feed.specs.Answers.{feedVerdict}
-use Rattle.feed.proofs.Answers.{accepts, refuses}
+use Rattle.answers.specs.Answers.{verdictOf}
+use Rattle.answers.proofs.Refusing.{leaves, stands}
 use Rattle.feed.proofs.Pairs.{pairsLeft, pairs-start, pairs-turn, pairs-end}
 use Rattle.feed.proofs.check_pairs.Statement.{statement}
 use Rattle.feed.proofs.check_pairs.Tie as tie
@@ -32,7 +32,7 @@ enum-told c = search needs
 -- the answer for the pair j, then the check from the next pair on, is the check of the whole table
 turn : (c : tie.After-check-pair Inv-loop μ-loop) →
     let a = c .before .before .before .before .args in
-    feedVerdict (c .check-pair .result) then pairsLeft (a .feed .now) (a .class) (a .at) (a .count) (c .before .before .loop .j + 1)
+    verdictOf (c .check-pair .result) then pairsLeft (a .feed .now) (a .class) (a .at) (a .count) (c .before .before .loop .j + 1)
     ≡ checkPairs (a .class) (a .at) [] (take (a .count) (pairsOf (drop (a .at) (a .feed .now))))
 turn c =
     let a = c .before .before .before .before .args in
@@ -40,7 +40,7 @@ turn c =
     ∙ c .before .before .loop .inv .1
 
 returns : tie.Need-returns Inv-loop μ-loop
-returns c = refuses _ _ (c .match .keys2) ∙ turn (c .before)
+returns c = stands _ _ (c .match .keys2) ∙ turn (c .before)
 
 add-j : tie.Need-add-j Inv-loop μ-loop
 add-j c = search needs
@@ -49,10 +49,10 @@ loop-less : tie.Need-loop-less Inv-loop μ-loop
 loop-less c = omega arith
 
 loop-again : tie.Need-loop-again Inv-loop μ-loop
-loop-again c = (omega arith, accepts _ (c .enum-told .given .1) ∙ turn (c .before .before))
+loop-again c = (omega arith, leaves _ (c .enum-told .given .1) ∙ turn (c .before .before))
 
 returns-2 : tie.Need-returns-2 Inv-loop μ-loop
-unfolding feedVerdict
+unfolding verdictOf
 returns-2 c =
     let a = c .before .before .before .args in
     pairs-end (a .feed .now) (a .class) (a .at) (a .count) (c .before .loop .j) (c .loop-test .left) ∙ c .before .loop .inv .1

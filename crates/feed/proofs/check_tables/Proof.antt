@@ -7,8 +7,8 @@ use borrow.Author.Needs.{needs}
 use lib.ListN.{length}
 use Rattle.answers.specs.Verdict.{_then_}
 use Rattle.feed.specs.Feed.{classCount, tableCount, tables, checkTables}
-use Rattle.feed.specs.Answers.{feedVerdict}
-use Rattle.feed.proofs.Answers.{accepts, refuses}
+use Rattle.answers.specs.Answers.{verdictOf}
+use Rattle.answers.proofs.Refusing.{leaves, stands}
 use Rattle.feed.proofs.Words.{Ends, ends-start, ends-inside, ends-next}
 use Rattle.feed.proofs.Checks.{tablesLeft, tables-start, tables-turn, tables-end}
 use Rattle.feed.proofs.check_tables.Statement.{statement}
@@ -48,7 +48,7 @@ inside c =
     rw (c .word2 .ensures) (ends-inside feed (omega arith) (at .loop .k) (at .loop .at) (omega arith) (at .loop .inv .1))
 
 check-pairs-requires : tie.Need-check-pairs-requires Inv-loop μ-loop
-check-pairs-requires c κs = (inside c, omega arith)
+check-pairs-requires c κs = record { inside = inside c; short = omega arith }
 
 enum-told : tie.Need-enum-told Inv-loop μ-loop
 enum-told c = search needs
@@ -57,7 +57,7 @@ enum-told c = search needs
 turn : (c : tie.After-check-pairs Inv-loop μ-loop) →
     let at = c .before .before .before in
     let feed = at .before .before .before .before .args .feed .now in
-    feedVerdict (c .check-pairs .result) then tablesLeft feed (at .loop .k + 1) (at .loop .at + 2 * c .before .word2 .result)
+    verdictOf (c .check-pairs .result) then tablesLeft feed (at .loop .k + 1) (at .loop .at + 2 * c .before .word2 .result)
     ≡ checkTables (classCount feed) (2 + tableCount feed) (tables feed)
 unfolding classCount
 turn c =
@@ -67,7 +67,7 @@ turn c =
     ∙ at .loop .inv .2
 
 returns : tie.Need-returns Inv-loop μ-loop
-returns c = refuses _ _ (c .match .keys2) ∙ turn (c .before)
+returns c = stands _ _ (c .match .keys2) ∙ turn (c .before)
 
 mul-at : tie.Need-mul-at Inv-loop μ-loop
 mul-at c = omega (arith, inside (c .before .before .before))
@@ -87,11 +87,11 @@ loop-again c =
     let feed = at .before .before .before .before .args .feed .now in (
       omega arith,
       rw (c .before .before .before .word2 .ensures) (ends-next feed (omega arith) (at .loop .k) (at .loop .at) (omega arith) (at .loop .inv .1)),
-      accepts _ (c .enum-told .given .1) ∙ turn (c .before .before),
+      leaves _ (c .enum-told .given .1) ∙ turn (c .before .before),
     )
 
 returns-2 : tie.Need-returns-2 Inv-loop μ-loop
-unfolding feedVerdict
+unfolding verdictOf
 returns-2 c =
     let at = c .before in
     let feed = at .before .before .before .before .args .feed .now in

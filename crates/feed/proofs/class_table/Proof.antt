@@ -7,12 +7,12 @@ use Rattle.feed.proofs.class_table.Tie as tie
 
 table-span-requires : tie.Need-table-span-requires
 unfolding tableCount
-table-span-requires c κs = (c .before .pre .0, omega arith)
+table-span-requires c κs = record { checked = c .before .pre .checked; there = omega arith }
 
 returns : tie.Need-returns
 returns c =
     let at = c .before .before in
-    rw (← class-among (at .args .feed .now) (at .args .k) (at .pre .1)) (c .table-span .ensures)
+    rw (← class-among (at .args .feed .now) (at .args .k) (at .pre .there)) (c .table-span .ensures)
 
 pub class-table-spec : {M : Type 1} → statement M
 class-table-spec = tie.close (tie.spec table-span-requires returns)

@@ -7,15 +7,15 @@ use Rattle.feed.proofs.label_table.Statement.{statement}
 use Rattle.feed.proofs.label_table.Tie as tie
 
 word-requires : tie.Need-word-requires
-word-requires c κs = let ok = feed-accepted _ (c .before .pre .0) in omega arith
+word-requires c κs = let ok = feed-accepted _ (c .before .pre .checked) in omega arith
 
 add-table-span : tie.Need-add-table-span
 unfolding classCount
-add-table-span c = let ok = feed-accepted _ (c .before .before .pre .0) in omega arith
+add-table-span c = let ok = feed-accepted _ (c .before .before .pre .checked) in omega arith
 
 table-span-requires : tie.Need-table-span-requires
 unfolding classCount tableCount
-table-span-requires c κs = (c .before .before .pre .0, omega arith)
+table-span-requires c κs = record { checked = c .before .before .pre .checked; there = omega arith }
 
 returns : tie.Need-returns
 unfolding classCount

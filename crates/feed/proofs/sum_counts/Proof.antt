@@ -3,6 +3,7 @@
 use mathlib.Core.Path.{_≡_, _∙_, ap}
 use Prim.Native.Nat.{ℕ, _+_, _*_, _-_, _≤_}
 use native.Mathlib.Omega.{arith}
+use Rattle.limits.specs.Limits.{mostTablePairs}
 use Rattle.tables.specs.Lists.{total}
 use Rattle.feed.specs.Feed.{counts, checkCounts}
 use Rattle.feed.specs.inner.Parts.{countsFound}
@@ -11,7 +12,7 @@ use Rattle.feed.proofs.sum_counts.Statement.{statement}
 use Rattle.feed.proofs.sum_counts.Tie as tie
 
 abbrev Inv-loop : tie.InvT-loop
-Inv-loop feed n sum₀ k₀ sum k = (k ≤ n) × (sum ≤ 4096 * k) × (countsLeft feed sum k ≡ countsFound (checkCounts 2 (counts feed)) (total (counts feed)))
+Inv-loop feed n sum₀ k₀ sum k = (k ≤ n) × (sum ≤ mostTablePairs * k) × (countsLeft feed sum k ≡ countsFound (checkCounts 2 (counts feed)) (total (counts feed)))
 
 abbrev μ-loop : tie.MeasureT-loop
 μ-loop feed n sum₀ k₀ sum k = n - k

@@ -21,29 +21,29 @@ abbrev μ-loop : tie.MeasureT-loop
 
 table-count-requires : tie.Need-table-count-requires Inv-loop μ-loop
 unfolding tableCount
-table-count-requires c κs = let ok = feed-accepted _ (c .before .pre .0) in omega arith
+table-count-requires c κs = let ok = feed-accepted _ (c .before .pre .checked) in omega arith
 
 add-start : tie.Need-add-start Inv-loop μ-loop
-add-start c = let ok = feed-accepted _ (c .before .before .pre .0) in omega arith
+add-start c = let ok = feed-accepted _ (c .before .before .pre .checked) in omega arith
 
 loop-holds : tie.Need-loop-holds Inv-loop μ-loop
 loop-holds c =
     let a = c .before .before .args in
-    let ok = feed-accepted _ (c .before .before .pre .0) in
+    let ok = feed-accepted _ (c .before .before .pre .checked) in
     let e : a .k - 0 ≡ a .k = omega arith in
     (omega arith, rw (c .table-count .ensures) (ends-start (a .feed .now) (ok .exact)), rw (c .table-count .ensures, e, tables-from-start))
 
 add-word : tie.Need-add-word Inv-loop μ-loop
-add-word c = let ok = feed-accepted _ (c .before .before .before .before .pre .0) in omega arith
+add-word c = let ok = feed-accepted _ (c .before .before .before .before .pre .checked) in omega arith
 
 word-requires : tie.Need-word-requires Inv-loop μ-loop
-word-requires c κs = let ok = feed-accepted _ (c .before .before .before .before .pre .0) in omega arith
+word-requires c κs = let ok = feed-accepted _ (c .before .before .before .before .pre .checked) in omega arith
 
 inside : (c : tie.After-word Inv-loop μ-loop) → c .before .before .loop .start + 2 * c .word .result ≤ length (c .before .before .before .before .before .args .feed .now)
 inside c =
     let at = c .before .before in
     let a = at .before .before .before .args in
-    let ok = feed-accepted _ (at .before .before .before .pre .0) in
+    let ok = feed-accepted _ (at .before .before .before .pre .checked) in
     rw (c .word .ensures) (ends-inside (a .feed .now) (ok .counted) (at .loop .j) (at .loop .start) (omega arith) (at .loop .inv .1))
 
 mul-start : tie.Need-mul-start Inv-loop μ-loop
@@ -62,17 +62,17 @@ loop-again : tie.Need-loop-again Inv-loop μ-loop
 loop-again c =
     let at = c .before .before in
     let a = at .before .before .before .args in
-    let ok = feed-accepted _ (at .before .before .before .pre .0) in (
+    let ok = feed-accepted _ (at .before .before .before .pre .checked) in (
       omega arith,
       rw (c .word .ensures) (ends-next (a .feed .now) (ok .counted) (at .loop .j) (at .loop .start) (omega arith) (at .loop .inv .1)),
       rw (c .word .ensures) (table-later (a .feed .now) (ok .counted) (at .loop .j) (at .loop .start) (omega arith) (a .k) (omega arith) ∙ at .loop .inv .2),
     )
 
 add-word-2 : tie.Need-add-word-2 Inv-loop μ-loop
-add-word-2 c = let ok = feed-accepted _ (c .before .before .before .before .pre .0) in omega arith
+add-word-2 c = let ok = feed-accepted _ (c .before .before .before .before .pre .checked) in omega arith
 
 word-requires-2 : tie.Need-word-requires-2 Inv-loop μ-loop
-word-requires-2 c κs = let ok = feed-accepted _ (c .before .before .before .before .pre .0) in omega arith
+word-requires-2 c κs = let ok = feed-accepted _ (c .before .before .before .before .pre .checked) in omega arith
 
 returns : tie.Need-returns Inv-loop μ-loop
 returns c =
@@ -80,7 +80,7 @@ returns c =
     let start = at .loop .start in
     let a = at .before .before .before .args in
     let feed = a .feed .now in
-    let ok = feed-accepted feed (at .before .before .before .pre .0) in
+    let ok = feed-accepted feed (at .before .before .before .pre .checked) in
     let l : a .k < tableCount feed = omega arith in
     let e : at .loop .j ≡ a .k = omega arith in
     record {
