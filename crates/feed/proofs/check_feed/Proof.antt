@@ -1,8 +1,9 @@
 -- `feed::check_feed` meets its contract: the tests are taken in document 01's order, each answer at its own return. Assumes nothing.
 use mathlib.Core.Path.{_≡_, _∙_, sym}
-use Prim.Native.Nat.{_≤_}
+use Prim.Native.Nat.{_*_, _≤_}
 use native.Mathlib.Omega.{arith}
 use borrow.Author.Needs.{needs}
+use Rattle.limits.specs.Limits.{mostTables, mostTablePairs}
 use Rattle.tables.specs.Lists.{total}
 use Rattle.feed.specs.Feed.{classCount, labelCount, tableCount, counts, checkCounts}
 use Rattle.answers.specs.Answers.{verdictOf}
@@ -11,6 +12,33 @@ use Rattle.feed.specs.declared.Counts.the-variants.{Sum}
 use Rattle.feed.proofs.Checks.{Head, no-head, many-classes, many-labels, no-counts, count-over, wrong-length, right-length, sum-small, is-exact}
 use Rattle.feed.proofs.check_feed.Statement.{statement}
 use Rattle.feed.proofs.check_feed.Tie as tie
+
+-- ---- places
+abbrev entry-of-else1 : tie.Else1 → tie.Start
+entry-of-else1 c = c .before .before
+
+abbrev entry-of-word : tie.After-word → tie.Start
+entry-of-word c = c .before .before .before
+
+abbrev entry-of-then2 : tie.Then2 → tie.Start
+entry-of-then2 c = c .before .before .before .before
+
+abbrev entry-of-then3 : tie.Then3 → tie.Start
+entry-of-then3 c = entry-of-else1 (c .before .before .before .before)
+
+abbrev entry-of-then4 : tie.Then4 → tie.Start
+entry-of-then4 c = entry-of-word (c .before .before .before .before)
+
+abbrev entry-of-else4 : tie.Else4 → tie.Start
+entry-of-else4 c = entry-of-word (c .before .before .before .before)
+
+abbrev else4-of-mul-if5 : tie.After-known-told2 → tie.Else4
+else4-of-mul-if5 c = c .before .before .before .before
+
+abbrev entry-of-mul-if5 : tie.After-known-told2 → tie.Start
+entry-of-mul-if5 c = entry-of-else4 (c .before .before .before .before)
+
+-- ---- end of places
 
 returns : tie.Need-returns
 unfolding verdictOf
@@ -21,14 +49,14 @@ word-requires c κs = search needs
 
 returns-2 : tie.Need-returns-2
 unfolding verdictOf classCount
-returns-2 c = many-classes (c .before .before .before .before .args .feed .now) (omega arith) (omega arith)
+returns-2 c = many-classes (entry-of-then2 c .args .feed .now) (omega arith) (omega arith)
 
 word-requires-2 : tie.Need-word-requires-2
 word-requires-2 c κs = search needs
 
 returns-3 : tie.Need-returns-3
 unfolding verdictOf classCount labelCount
-returns-3 c = many-labels (c .before .before .before .before .before .before .args .feed .now) (omega arith) (omega arith) (omega arith)
+returns-3 c = many-labels (entry-of-then3 c .args .feed .now) (omega arith) (omega arith) (omega arith)
 
 add-head : tie.Need-add-head
 add-head c = search needs
@@ -38,9 +66,9 @@ add-head-2 c = search needs
 
 returns-4 : tie.Need-returns-4
 unfolding verdictOf classCount labelCount tableCount
-returns-4 c = no-counts (c .before .before .before .before .before .before .before .args .feed .now) (omega arith) (omega arith) (omega arith) (omega arith)
+returns-4 c = no-counts (entry-of-then4 c .args .feed .now) (omega arith) (omega arith) (omega arith) (omega arith)
 
-head : (c : tie.Else4) → Head (c .before .before .before .before .before .before .before .args .feed .now)
+head : (c : tie.Else4) → Head (entry-of-else4 c .args .feed .now)
 unfolding classCount labelCount tableCount
 head c = record { headed = omega arith; fewClasses = omega arith; fewLabels = omega arith; counted = omega arith }
 
@@ -55,12 +83,12 @@ enum-known-sum : tie.Need-enum-known-sum
 enum-known-sum c = search needs
 
 -- the answer for the counts was a sum
-summed : (c : tie.After-known-told2) → let feed = c .before .before .before .before .before .before .before .before .before .before .before .args .feed .now in
+summed : (c : tie.After-known-told2) → let feed = entry-of-mul-if5 c .args .feed .now in
     Sum (c .before .sum .given .0 .0) ≡ countsFound (checkCounts 2 (counts feed)) (total (counts feed))
 summed c = sym (c .before .sum .given .1) ∙ c .before .before .before .sum-counts .ensures
 
-small : (c : tie.After-known-told2) → c .before .sum .given .0 .0 ≤ 393216
-small c = sum-small _ (head (c .before .before .before .before)) (summed c)
+small : (c : tie.After-known-told2) → c .before .sum .given .0 .0 ≤ mostTables * mostTablePairs
+small c = sum-small _ (head (else4-of-mul-if5 c)) (summed c)
 
 mul-if5 : tie.Need-mul-if5
 mul-if5 c = omega (arith, small c)
@@ -72,13 +100,13 @@ returns-5 : tie.Need-returns-5
 unfolding verdictOf classCount labelCount tableCount
 returns-5 c =
     let at = c .before in
-    wrong-length _ (head (at .before .before .before .before)) (summed at) (λ e. omega (arith, c .if5 .taken))
+    wrong-length _ (head (else4-of-mul-if5 at)) (summed at) (λ e. omega (arith, c .if5 .taken))
 
 check-tables-requires : tie.Need-check-tables-requires
 unfolding classCount labelCount tableCount
 check-tables-requires c κs =
     let at = c .before in
-    is-exact _ (head (at .before .before .before .before)) (summed at) (omega arith)
+    is-exact _ (head (else4-of-mul-if5 at)) (summed at) (omega arith)
 
 returns-6 : tie.Need-returns-6
 unfolding verdictOf
@@ -90,7 +118,7 @@ returns-7 : tie.Need-returns-7
 unfolding classCount labelCount tableCount
 returns-7 c =
     let at = c .before .before in
-    c .check-tables .ensures ∙ right-length _ (head (at .before .before .before .before)) (summed at) (omega arith)
+    c .check-tables .ensures ∙ right-length _ (head (else4-of-mul-if5 at)) (summed at) (omega arith)
 
 pub check-feed-spec : {M : Type 1} → statement M
 check-feed-spec =

@@ -21,6 +21,21 @@ Inv-loop feed classes n at₀ k₀ at k =
 abbrev μ-loop : tie.MeasureT-loop
 μ-loop feed classes n at₀ k₀ at k = n - k
 
+-- ---- places
+abbrev entry-of-loop : tie.At-loop Inv-loop μ-loop → tie.Start Inv-loop μ-loop
+entry-of-loop c = c .before .before .before .before
+
+abbrev loop-of-in-loop : tie.In-loop Inv-loop μ-loop → tie.At-loop Inv-loop μ-loop
+loop-of-in-loop c = c .before
+
+abbrev entry-of-word2 : tie.After-word2 Inv-loop μ-loop → tie.Start Inv-loop μ-loop
+entry-of-word2 c = entry-of-loop (c .before .before)
+
+abbrev loop-of-again : tie.After-enum-told Inv-loop μ-loop → tie.At-loop Inv-loop μ-loop
+loop-of-again c = loop-of-in-loop (c .before .before .before .before)
+
+-- ---- end of places
+
 word-requires : tie.Need-word-requires Inv-loop μ-loop
 word-requires c κs = omega arith
 
@@ -41,10 +56,10 @@ add-word c = omega arith
 word-requires-2 : tie.Need-word-requires-2 Inv-loop μ-loop
 word-requires-2 c κs = omega arith
 
-inside : (c : tie.After-word2 Inv-loop μ-loop) → c .before .before .loop .at + 2 * c .word2 .result ≤ length (c .before .before .before .before .before .before .args .feed .now)
+inside : (c : tie.After-word2 Inv-loop μ-loop) → c .before .before .loop .at + 2 * c .word2 .result ≤ length (entry-of-word2 c .args .feed .now)
 inside c =
     let at = c .before .before in
-    let feed = at .before .before .before .before .args .feed .now in
+    let feed = entry-of-loop at .args .feed .now in
     rw (c .word2 .ensures) (ends-inside feed (omega arith) (at .loop .k) (at .loop .at) (omega arith) (at .loop .inv .1))
 
 check-pairs-requires : tie.Need-check-pairs-requires Inv-loop μ-loop
@@ -62,7 +77,7 @@ turn : (c : tie.After-check-pairs Inv-loop μ-loop) →
 unfolding classCount
 turn c =
     let at = c .before .before .before in
-    let feed = at .before .before .before .before .args .feed .now in
+    let feed = entry-of-loop at .args .feed .now in
     tables-turn feed (omega arith) (at .loop .k) (at .loop .at) (omega arith) (at .loop .inv .1) (at .before .before .word .ensures) (c .before .word2 .ensures) (c .check-pairs .ensures)
     ∙ at .loop .inv .2
 
@@ -83,8 +98,8 @@ loop-less c = omega arith
 
 loop-again : tie.Need-loop-again Inv-loop μ-loop
 loop-again c =
-    let at = c .before .before .before .before .before in
-    let feed = at .before .before .before .before .args .feed .now in (
+    let at = loop-of-again c in
+    let feed = entry-of-loop at .args .feed .now in (
       omega arith,
       rw (c .before .before .before .word2 .ensures) (ends-next feed (omega arith) (at .loop .k) (at .loop .at) (omega arith) (at .loop .inv .1)),
       leaves _ (c .enum-told .given .1) ∙ turn (c .before .before),
@@ -94,7 +109,7 @@ returns-2 : tie.Need-returns-2 Inv-loop μ-loop
 unfolding verdictOf
 returns-2 c =
     let at = c .before in
-    let feed = at .before .before .before .before .args .feed .now in
+    let feed = entry-of-loop at .args .feed .now in
     tables-end feed (omega arith) (at .loop .k) (at .loop .at) (omega arith) ∙ at .loop .inv .2
 
 pub check-tables-spec : {M : Type 1} → statement M

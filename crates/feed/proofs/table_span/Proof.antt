@@ -19,6 +19,18 @@ Inv-loop feed k start₀ j₀ start j =
 abbrev μ-loop : tie.MeasureT-loop
 μ-loop feed k start₀ j₀ start j = k - j
 
+-- ---- places
+abbrev entry-of-in-loop : tie.In-loop Inv-loop μ-loop → tie.Start Inv-loop μ-loop
+entry-of-in-loop c = c .before .before .before .before
+
+abbrev entry-of-after-loop : tie.After-loop Inv-loop μ-loop → tie.Start Inv-loop μ-loop
+entry-of-after-loop c = c .before .before .before .before
+
+abbrev entry-of-word : tie.After-word Inv-loop μ-loop → tie.Start Inv-loop μ-loop
+entry-of-word c = entry-of-in-loop (c .before)
+
+-- ---- end of places
+
 table-count-requires : tie.Need-table-count-requires Inv-loop μ-loop
 unfolding tableCount
 table-count-requires c κs = let ok = feed-accepted _ (c .before .pre .checked) in omega arith
@@ -34,12 +46,12 @@ loop-holds c =
     (omega arith, rw (c .table-count .ensures) (ends-start (a .feed .now) (ok .exact)), rw (c .table-count .ensures, e, tables-from-start))
 
 add-word : tie.Need-add-word Inv-loop μ-loop
-add-word c = let ok = feed-accepted _ (c .before .before .before .before .pre .checked) in omega arith
+add-word c = let ok = feed-accepted _ (entry-of-in-loop c .pre .checked) in omega arith
 
 word-requires : tie.Need-word-requires Inv-loop μ-loop
-word-requires c κs = let ok = feed-accepted _ (c .before .before .before .before .pre .checked) in omega arith
+word-requires c κs = let ok = feed-accepted _ (entry-of-in-loop c .pre .checked) in omega arith
 
-inside : (c : tie.After-word Inv-loop μ-loop) → c .before .before .loop .start + 2 * c .word .result ≤ length (c .before .before .before .before .before .args .feed .now)
+inside : (c : tie.After-word Inv-loop μ-loop) → c .before .before .loop .start + 2 * c .word .result ≤ length (entry-of-word c .args .feed .now)
 inside c =
     let at = c .before .before in
     let a = at .before .before .before .args in
@@ -69,10 +81,10 @@ loop-again c =
     )
 
 add-word-2 : tie.Need-add-word-2 Inv-loop μ-loop
-add-word-2 c = let ok = feed-accepted _ (c .before .before .before .before .pre .checked) in omega arith
+add-word-2 c = let ok = feed-accepted _ (entry-of-after-loop c .pre .checked) in omega arith
 
 word-requires-2 : tie.Need-word-requires-2 Inv-loop μ-loop
-word-requires-2 c κs = let ok = feed-accepted _ (c .before .before .before .before .pre .checked) in omega arith
+word-requires-2 c κs = let ok = feed-accepted _ (entry-of-after-loop c .pre .checked) in omega arith
 
 returns : tie.Need-returns Inv-loop μ-loop
 returns c =
