@@ -1,4 +1,3 @@
-pub mod Answers
 pub mod Demand
 pub mod Instructions
 pub mod Operators

@@ -1,18 +1,15 @@
 // The check of an instruction list (document 01, refusals 8 and 9).
-use crate::InstructionCheck;
 use crate::Shape;
 use crate::Step;
-use feed::FeedCheck;
+use answers::Answer;
 use feed::check_feed;
+use limits::LIST_WORDS;
 ghost use mathlib.Core.Path.{_≡_};
 ghost use Prim.Native.Nat.{_+_, _*_, _≤_};
 ghost use lib.ListN.{length, getD, getElem?};
-ghost use Rattle.algebra.specs.Instructions.{instruction, instructionsOf, signatures, isValid, checkEach, instructionCeiling, checkInstructions};
-ghost use Rattle.algebra.specs.Answers.{instructionVerdict};
-ghost use Rattle.algebra.specs.inner.Parts.{checkInstructionList, instructionOf, operandsOf, areOperands};
-
-// The most instructions that a list may have.
-const CEILING: usize = 1024;
+ghost use Rattle.answers.specs.Answers.{verdictOf};
+ghost use Rattle.algebra.specs.Instructions.{instruction, instructionsOf, signatures, isValid, checkEach, checkInstructions};
+ghost use Rattle.algebra.specs.inner.Parts.{checkInstructionList, Fit, instructionOf, operandsOf, areOperands};
 
 // The operands that a kind takes.
 fn shape_of(kind: u32) -> Shape
@@ -65,9 +62,9 @@ pub fn instruction_at(list: &[u32], i: usize) -> Step
 }
 
 // The first instruction that breaks a rule.
-fn check_each(feed: &[u32], list: &[u32]) -> InstructionCheck
-    requires { ⌜ (2 ≤ length (now feed)) × (length (now list) ≤ 3 * instructionCeiling) ⌝ }
-    ensures { λ r. ⌜ instructionVerdict r ≡ checkEach (now (feed .entry)) 0 (instructionsOf (now (list .entry))) ⌝ }
+fn check_each(feed: &[u32], list: &[u32]) -> Answer
+    requires { ⌜ Fit (now feed) (now list) ⌝ }
+    ensures { λ r. ⌜ verdictOf r ≡ checkEach (now (feed .entry)) 0 (instructionsOf (now (list .entry))) ⌝ }
 {
     let count = list.len() / 3;
     let mut i = 0;
@@ -77,36 +74,36 @@ fn check_each(feed: &[u32], list: &[u32]) -> InstructionCheck
         if is_valid(feed, place, step.kind, step.a, step.b) {
             i += 1;
         } else {
-            return InstructionCheck::Invalid(place);
+            return Answer::Invalid(place);
         }
     }
-    InstructionCheck::Accepted
+    Answer::Accepted
 }
 
 // The check of a list for a feed that was accepted.
-pub fn check_list(feed: &[u32], list: &[u32]) -> InstructionCheck
+pub fn check_list(feed: &[u32], list: &[u32]) -> Answer
     requires { ⌜ 2 ≤ length (now feed) ⌝ }
-    ensures { λ r. ⌜ instructionVerdict r ≡ checkInstructionList (now (feed .entry)) (now (list .entry)) ⌝ }
+    ensures { λ r. ⌜ verdictOf r ≡ checkInstructionList (now (feed .entry)) (now (list .entry)) ⌝ }
 {
     if list.len() < 1 {
-        return InstructionCheck::Length;
+        return Answer::ListLength;
     }
-    if 3 * CEILING < list.len() {
-        return InstructionCheck::Length;
+    if LIST_WORDS < list.len() {
+        return Answer::ListLength;
     }
     if list.len() % 3 != 0 {
-        return InstructionCheck::Length;
+        return Answer::ListLength;
     }
     check_each(feed, list)
 }
 
 // The check of an instruction list and its feed, which comes first.
-pub fn check_instructions(feed: &[u32], list: &[u32]) -> InstructionCheck
-    ensures { λ r. ⌜ instructionVerdict r ≡ checkInstructions (now (feed .entry)) (now (list .entry)) ⌝ }
+pub fn check_instructions(feed: &[u32], list: &[u32]) -> Answer
+    ensures { λ r. ⌜ verdictOf r ≡ checkInstructions (now (feed .entry)) (now (list .entry)) ⌝ }
 {
     let found = check_feed(feed);
-    let FeedCheck::Accepted = found else {
-        return InstructionCheck::Feed(found);
+    let Answer::Accepted = found else {
+        return found;
     };
     check_list(feed, list)
 }

@@ -9,7 +9,7 @@ use Rattle.answers.specs.Verdict.{unless, _then_}
 use Rattle.feed.specs.Feed.{classCount, labelCount, tableCount, counts, body, pairsOf, cut, tables, classTable, labelTable, checkCounts, above, checkPair, checkPairs, checkTables, checkFeed}
 use Rattle.drawing.specs.Drawing.{nodeCount, edgeCount, nodesOf, edgesOf, patternOf, isPicked, checkNodes, checkEdges, checkLength, checkPattern, checkDrawing}
 use Rattle.drawing.specs.Embeddings.{choices, objects, edgeHolds, embeddings, picked, rows}
-use Rattle.algebra.specs.Instructions.{instructionsOf, wordsOf, signatures, isOperand, isValid, checkEach, instructionCeiling, checkInstructions}
+use Rattle.algebra.specs.Instructions.{instructionsOf, wordsOf, signatures, isOperand, isValid, checkEach, checkInstructions}
 use Rattle.algebra.specs.Operators.{inverse, composition, intersection, tag, leftTag, rightTag, tau, cross, operators, operator}
 use Rattle.algebra.specs.Run.{register, result, registersAfter, registers, checkSizes, roomOf, runVerdict, finished, workAfter, runChecked, run}
 use Rattle.translator.specs.Program.{after, return, _>>=_, write, each}
@@ -26,5 +26,5 @@ use Rattle.sheet.specs.SheetQuery.{ownSlices, answerText, outcomeText, s
 use Rattle.sheet.specs.Cases.{case, sheets}
 
 pub as-stated : map (λ c. sheetListing (bytes (c .sheet))) sheets ≡ map (λ c. bytes (c .listing)) sheets
-unfolding flatMap keep all any count below total placed padded place insert normal next comparePair compareRow table has unless _then_ classCount labelCount tableCount counts body pairsOf cut tables classTable labelTable checkCounts above checkPair checkPairs checkTables checkFeed nodeCount edgeCount nodesOf edgesOf patternOf isPicked checkNodes checkEdges checkLength checkPattern checkDrawing choices objects edgeHolds embeddings picked rows instructionsOf wordsOf signatures isOperand isValid checkEach instructionCeiling checkInstructions inverse composition intersection tag leftTag rightTag tau cross operators operator register result registersAfter registers checkSizes roomOf runVerdict tableWords tablesWords finished workAfter runChecked run after return _>>=_ write each vertexAt arcAt liveVertices liveArcs setVertex setArc touches farEnd arcsAt holdsPick turned carriedArc moveArc carriedPath carriedPick movePick combine applyLoop applyParallel applyChain applyJoin applyProduct apply loops sameEnds parallels chainAt chains others fewer fewest joins productAt products nextMove proceed reduce loadVertex loadArc picksFrom load translation image follow lastRegister rowsThrough checkList pickCount rowWords checkRows answer query bytes addByte split fields within isName noLeadingZero isNumber valueFrom valueOf digitsBefore digits same find known nothing turnTo withClasses withLabels withNode withEdge allow numbered withLine fitsTable readClass readLabel readNode readEdge readValues endSection readOpened headers readHeader byStage readLine finish continue endsAt readLines readSheet linesOf tablesOf feedWords drawingWords line pickedNames listing refusal ownSlices answerText outcomeText sheetListing case sheets
+unfolding flatMap keep all any count below total placed padded place insert normal next comparePair compareRow table has unless _then_ classCount labelCount tableCount counts body pairsOf cut tables classTable labelTable checkCounts above checkPair checkPairs checkTables checkFeed nodeCount edgeCount nodesOf edgesOf patternOf isPicked checkNodes checkEdges checkLength checkPattern checkDrawing choices objects edgeHolds embeddings picked rows instructionsOf wordsOf signatures isOperand isValid checkEach checkInstructions inverse composition intersection tag leftTag rightTag tau cross operators operator register result registersAfter registers checkSizes roomOf runVerdict tableWords tablesWords finished workAfter runChecked run after return _>>=_ write each vertexAt arcAt liveVertices liveArcs setVertex setArc touches farEnd arcsAt holdsPick turned carriedArc moveArc carriedPath carriedPick movePick combine applyLoop applyParallel applyChain applyJoin applyProduct apply loops sameEnds parallels chainAt chains others fewer fewest joins productAt products nextMove proceed reduce loadVertex loadArc picksFrom load translation image follow lastRegister rowsThrough checkList pickCount rowWords checkRows answer query bytes addByte split fields within isName noLeadingZero isNumber valueFrom valueOf digitsBefore digits same find known nothing turnTo withClasses withLabels withNode withEdge allow numbered withLine fitsTable readClass readLabel readNode readEdge readValues endSection readOpened headers readHeader byStage readLine finish continue endsAt readLines readSheet linesOf tablesOf feedWords drawingWords line pickedNames listing refusal ownSlices answerText outcomeText sheetListing case sheets
 as-stated = refl

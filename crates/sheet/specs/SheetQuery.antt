@@ -5,10 +5,10 @@
 use Prim.Native.Nat.{ℕ, _*_}
 use mathlib.Core.List.{List}
 use lib.ListN.{replicate}
+use Rattle.limits.specs.Limits.{mostInstructions}
 use Rattle.answers.specs.Verdict.{Verdict, accepted, refused}
 use Rattle.drawing.specs.Drawing.{patternOf}
 use Rattle.drawing.specs.Embeddings.{rows}
-use Rattle.algebra.specs.Instructions.{instructionCeiling}
 use Rattle.query.specs.Query.{query, Lent}
 use Rattle.sheet_listing.specs.Listing.{pickedNames, listing, refusal, Listed, listedIn}
 use Rattle.sheet_lines.specs.Reading.{Reading}
@@ -16,7 +16,7 @@ use Rattle.sheet_reader.specs.Sheet.{Outcome, read, breach, readSheet, feedWord
 
 -- "The sheet query lends itself 16,384 work words, 4,096 row words and room for every instruction"
 unfoldable pub ownSlices : Lent
-ownSlices = record { list = replicate (3 * instructionCeiling) 0; work = replicate 16384 0; out = replicate 4096 0 }
+ownSlices = record { list = replicate (3 * mostInstructions) 0; work = replicate 16384 0; out = replicate 4096 0 }
 
 unfoldable pub answerText : Verdict → Reading → List ℕ
 answerText (refused n p) r = refusal n p

@@ -3,7 +3,6 @@
 use borrow.Author.Needs.{needs}
 use native.Mathlib.Omega.{arith}
 use mathlib.Core.Path.{refl}
-use Rattle.algebra.specs.Instructions.{instructionCeiling}
 use Rattle.algebra.specs.Run.{roomOf}
 use Rattle.sheet.specs.SheetQuery.{ownSlices}
 use Rattle.sheet.proofs.ask.Statement.{statement}
@@ -28,7 +27,7 @@ slice-aggregate-print-answer-6 : tie.Need-slice-aggregate-print-answer-6
 slice-aggregate-print-answer-6 c = search needs
 
 print-answer-requires : tie.Need-print-answer-requires
-unfolding ownSlices instructionCeiling roomOf
+unfolding ownSlices roomOf
 print-answer-requires c κs =
     let p = c .before .before .before .before .before .before .before .before .before .before .before .pre in
     (record { own = refl }, (omega arith, (record { first = omega arith; second = omega arith }, (p .0, p .1))))

@@ -4,14 +4,22 @@ use mathlib.Core.Path.{_≡_, _∙_, sym, ap}
 use borrow.Author.Needs.{needs}
 use Rattle.answers.specs.Verdict.{accepted, _then_}
 use Rattle.feed.specs.Feed.{checkFeed}
-use Rattle.feed.specs.Answers.{feedVerdict}
 use Rattle.feed.proofs.Feed.{feed-accepted}
-use Rattle.feed.proofs.Answers.{refuses}
+use Rattle.answers.proofs.Refusing.{stands}
 use Rattle.algebra.specs.Instructions.{checkInstructions}
-use Rattle.algebra.specs.Answers.{instructionVerdict}
+use Rattle.answers.specs.Answers.{verdictOf}
 use Rattle.algebra.specs.inner.Parts.{checkInstructionList}
 use Rattle.algebra.proofs.check.check_instructions.Statement.{statement}
 use Rattle.algebra.proofs.check.check_instructions.Tie as tie
+
+-- ---- places
+abbrev entry-of-check-feed : tie.After-check-feed → tie.Start
+entry-of-check-feed c = c .before .before .before
+
+abbrev entry-of-check-list-requires : tie.After-enum-told → tie.Start
+entry-of-check-list-requires c = entry-of-check-feed (c .before .before)
+
+-- ---- end of places
 
 check-feed-requires : tie.Need-check-feed-requires
 check-feed-requires c κs = search needs
@@ -20,12 +28,12 @@ enum-told : tie.Need-enum-told
 enum-told c = search needs
 
 returns : tie.Need-returns
-unfolding instructionVerdict checkInstructions
-returns c = rw (← c .before .check-feed .ensures) (refuses _ _ (c .match .keys2))
+unfolding checkInstructions
+returns c = rw (← c .before .check-feed .ensures) (stands _ _ (c .match .keys2))
 
-feed-is-accepted : (c : tie.After-enum-told) → checkFeed (c .before .before .before .before .before .args .feed .now) ≡ accepted
-unfolding feedVerdict
-feed-is-accepted c = sym (c .before .before .check-feed .ensures) ∙ ap feedVerdict (c .enum-told .given .1)
+feed-is-accepted : (c : tie.After-enum-told) → checkFeed (entry-of-check-list-requires c .args .feed .now) ≡ accepted
+unfolding verdictOf
+feed-is-accepted c = sym (c .before .before .check-feed .ensures) ∙ ap verdictOf (c .enum-told .given .1)
 
 check-list-requires : tie.Need-check-list-requires
 check-list-requires c κs = feed-accepted _ (feed-is-accepted c) .headed
