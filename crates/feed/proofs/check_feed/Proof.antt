@@ -44,25 +44,13 @@ returns : tie.Need-returns
 unfolding verdictOf
 returns c = no-head (c .before .before .args .feed .now) (c .if1 .taken)
 
-word-requires : tie.Need-word-requires
-word-requires c κs = search needs
-
 returns-2 : tie.Need-returns-2
 unfolding verdictOf classCount
 returns-2 c = many-classes (entry-of-then2 c .args .feed .now) (omega arith) (omega arith)
 
-word-requires-2 : tie.Need-word-requires-2
-word-requires-2 c κs = search needs
-
 returns-3 : tie.Need-returns-3
 unfolding verdictOf classCount labelCount
 returns-3 c = many-labels (entry-of-then3 c .args .feed .now) (omega arith) (omega arith) (omega arith)
-
-add-head : tie.Need-add-head
-add-head c = search needs
-
-add-head-2 : tie.Need-add-head-2
-add-head-2 c = search needs
 
 returns-4 : tie.Need-returns-4
 unfolding verdictOf classCount labelCount tableCount
@@ -75,12 +63,6 @@ head c = record { headed = omega arith; fewClasses = omega arith; fewLabels = om
 sum-counts-requires : tie.Need-sum-counts-requires
 unfolding classCount labelCount tableCount
 sum-counts-requires c κs = omega arith
-
-enum-known-place : tie.Need-enum-known-place
-enum-known-place c = search needs
-
-enum-known-sum : tie.Need-enum-known-sum
-enum-known-sum c = search needs
 
 -- the answer for the counts was a sum
 summed : (c : tie.After-known-told2) → let feed = entry-of-mul-if5 c .args .feed .now in
@@ -125,16 +107,16 @@ check-feed-spec =
     tie.close
     (tie.spec
     returns
-    word-requires
+    (λ c κs. search needs)
     returns-2
-    word-requires-2
+    (λ c κs. search needs)
     returns-3
-    add-head
-    add-head-2
+    (λ c. search needs)
+    (λ c. search needs)
     returns-4
     sum-counts-requires
-    enum-known-place
-    enum-known-sum
+    (λ c. search needs)
+    (λ c. search needs)
     mul-if5
     add-if5
     returns-5

@@ -20,31 +20,13 @@ of-words c e =
     let a = c .before .before .before .args in
     e ∙ ap (checkPair (a .class) (a .at + 2 * a .j) (before (a .feed .now) (a .at) (a .j))) (c .before .pair-from .ensures)
 
-mul-i : tie.Need-mul-i
-mul-i c = search needs
-
-add-i : tie.Need-add-i
-add-i c = search needs
-
-pair-from-requires : tie.Need-pair-from-requires
-pair-from-requires c κs = search needs
-
-is-ordered-requires : tie.Need-is-ordered-requires
-is-ordered-requires c κs = search needs
-
 returns : tie.Need-returns
 unfolding verdictOf
 returns c = of-words (c .before .before) (pair-passes _ _ _ _ _ (c .before .before .is-ordered .ensures) (c .if1 .taken))
 
-cast-t12 : tie.Need-cast-t12
-cast-t12 c = search needs
-
 returns-2 : tie.Need-returns-2
 unfolding verdictOf
 returns-2 c = of-words (c .before .before .before) (not-even _ _ _ _ _ (c .before .before .before .is-ordered .ensures) (c .before .if1 .left) (c .if2 .taken))
-
-cast-t13 : tie.Need-cast-t13
-cast-t13 c = search needs
 
 returns-3 : tie.Need-returns-3
 unfolding verdictOf
@@ -54,12 +36,12 @@ pub check-pair-spec : {M : Type 1} → statement M
 check-pair-spec =
     tie.close
     (tie.spec
-    mul-i
-    add-i
-    pair-from-requires
-    is-ordered-requires
+    (λ c. search needs)
+    (λ c. search needs)
+    (λ c κs. search needs)
+    (λ c κs. search needs)
     returns
-    cast-t12
+    (λ c. search needs)
     returns-2
-    cast-t13
+    (λ c. search needs)
     returns-3)

@@ -23,9 +23,6 @@ abbrev μ-loop : tie.MeasureT-loop
 loop-holds : tie.Need-loop-holds Inv-loop μ-loop
 loop-holds c = let a = c .before .args in (omega arith, pairs-start (a .feed .now) (a .class) (a .at) (a .count))
 
-check-pair-requires : tie.Need-check-pair-requires Inv-loop μ-loop
-check-pair-requires c κs = search needs
-
 enum-told : tie.Need-enum-told Inv-loop μ-loop
 enum-told c = search needs
 
@@ -41,12 +38,6 @@ turn c =
 
 returns : tie.Need-returns Inv-loop μ-loop
 returns c = stands _ _ (c .match .keys2) ∙ turn (c .before)
-
-add-j : tie.Need-add-j Inv-loop μ-loop
-add-j c = search needs
-
-loop-less : tie.Need-loop-less Inv-loop μ-loop
-loop-less c = omega arith
 
 loop-again : tie.Need-loop-again Inv-loop μ-loop
 loop-again c = (omega arith, leaves _ (c .enum-told .given .1) ∙ turn (c .before .before))
@@ -64,10 +55,10 @@ check-pairs-spec =
     Inv-loop
     μ-loop
     loop-holds
-    check-pair-requires
+    (λ c κs. search needs)
     enum-told
     returns
-    add-j
-    loop-less
+    (λ c. search needs)
+    (λ c. omega arith)
     loop-again
     returns-2)

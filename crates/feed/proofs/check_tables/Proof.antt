@@ -36,25 +36,10 @@ loop-of-again c = loop-of-in-loop (c .before .before .before .before)
 
 -- ---- end of places
 
-word-requires : tie.Need-word-requires Inv-loop μ-loop
-word-requires c κs = omega arith
-
-table-count-requires : tie.Need-table-count-requires Inv-loop μ-loop
-table-count-requires c κs = omega arith
-
-add-at : tie.Need-add-at Inv-loop μ-loop
-add-at c = omega arith
-
 loop-holds : tie.Need-loop-holds Inv-loop μ-loop
 loop-holds c =
     let feed = c .before .before .before .args .feed .now in
     (omega arith, rw (c .table-count .ensures) (ends-start feed (c .before .before .before .pre .exact)), rw (c .table-count .ensures) (tables-start feed))
-
-add-word : tie.Need-add-word Inv-loop μ-loop
-add-word c = omega arith
-
-word-requires-2 : tie.Need-word-requires-2 Inv-loop μ-loop
-word-requires-2 c κs = omega arith
 
 inside : (c : tie.After-word2 Inv-loop μ-loop) → c .before .before .loop .at + 2 * c .word2 .result ≤ length (entry-of-word2 c .args .feed .now)
 inside c =
@@ -90,12 +75,6 @@ mul-at c = omega (arith, inside (c .before .before .before))
 add-at-2 : tie.Need-add-at-2 Inv-loop μ-loop
 add-at-2 c = omega (arith, inside (c .before .before .before))
 
-add-k : tie.Need-add-k Inv-loop μ-loop
-add-k c = omega arith
-
-loop-less : tie.Need-loop-less Inv-loop μ-loop
-loop-less c = omega arith
-
 loop-again : tie.Need-loop-again Inv-loop μ-loop
 loop-again c =
     let at = loop-of-again c in
@@ -118,18 +97,18 @@ check-tables-spec =
     (tie.spec
     Inv-loop
     μ-loop
-    word-requires
-    table-count-requires
-    add-at
+    (λ c κs. omega arith)
+    (λ c κs. omega arith)
+    (λ c. omega arith)
     loop-holds
-    add-word
-    word-requires-2
+    (λ c. omega arith)
+    (λ c κs. omega arith)
     check-pairs-requires
     enum-told
     returns
     mul-at
     add-at-2
-    add-k
-    loop-less
+    (λ c. omega arith)
+    (λ c. omega arith)
     loop-again
     returns-2)

@@ -10,21 +10,6 @@ use Rattle.feed.proofs.rises.Tie as tie
 returns : tie.Need-returns
 returns c = let a = c .before .before .args in above-none (a .feed .now) (a .at) (a .j) (a .p) (c .if1 .taken)
 
-mul-pair-from : tie.Need-mul-pair-from
-mul-pair-from c = search needs
-
-add-pair-from : tie.Need-add-pair-from
-add-pair-from c = search needs
-
-sub-pair-from : tie.Need-sub-pair-from
-sub-pair-from c = search needs
-
-pair-from-requires : tie.Need-pair-from-requires
-pair-from-requires c κs = search needs
-
-is-below-requires : tie.Need-is-below-requires
-is-below-requires c κs = search needs
-
 returns-2 : tie.Need-returns-2
 returns-2 c =
     let a = c .before .before .before .before .args in
@@ -33,4 +18,4 @@ returns-2 c =
     ∙ above-one (a .feed .now) (a .at) (a .j) (a .p) (c .before .before .if1 .left)
 
 pub rises-spec : {M : Type 1} → statement M
-rises-spec = tie.close (tie.spec returns mul-pair-from add-pair-from sub-pair-from pair-from-requires is-below-requires returns-2)
+rises-spec = tie.close (tie.spec returns (λ c. search needs) (λ c. search needs) (λ c. search needs) (λ c κs. search needs) (λ c κs. search needs) returns-2)

@@ -17,38 +17,14 @@ Inv-loop feed n sum₀ k₀ sum k = (k ≤ n) × (sum ≤ mostTablePairs * k) ×
 abbrev μ-loop : tie.MeasureT-loop
 μ-loop feed n sum₀ k₀ sum k = n - k
 
-table-count-requires : tie.Need-table-count-requires Inv-loop μ-loop
-table-count-requires c κs = omega arith
-
 loop-holds : tie.Need-loop-holds Inv-loop μ-loop
 loop-holds c = (omega arith, omega arith, counts-start (c .before .before .args .feed .now))
-
-add-word : tie.Need-add-word Inv-loop μ-loop
-add-word c = omega arith
-
-word-requires : tie.Need-word-requires Inv-loop μ-loop
-word-requires c κs = omega arith
-
-add-t8 : tie.Need-add-t8 Inv-loop μ-loop
-add-t8 c = omega arith
-
-cast-t9 : tie.Need-cast-t9 Inv-loop μ-loop
-cast-t9 c = omega arith
 
 returns : tie.Need-returns Inv-loop μ-loop
 returns c =
     let at = c .before .before .before in
     let feed = at .before .before .before .args .feed .now in
     counts-over feed (omega arith) (at .loop .sum) (at .loop .k) (omega arith) (omega arith) ∙ at .loop .inv .2
-
-add-sum : tie.Need-add-sum Inv-loop μ-loop
-add-sum c = omega arith
-
-add-k : tie.Need-add-k Inv-loop μ-loop
-add-k c = omega arith
-
-loop-less : tie.Need-loop-less Inv-loop μ-loop
-loop-less c = omega arith
 
 loop-again : tie.Need-loop-again Inv-loop μ-loop
 loop-again c =
@@ -74,15 +50,15 @@ sum-counts-spec =
     (tie.spec
     Inv-loop
     μ-loop
-    table-count-requires
+    (λ c κs. omega arith)
     loop-holds
-    add-word
-    word-requires
-    add-t8
-    cast-t9
+    (λ c. omega arith)
+    (λ c κs. omega arith)
+    (λ c. omega arith)
+    (λ c. omega arith)
     returns
-    add-sum
-    add-k
-    loop-less
+    (λ c. omega arith)
+    (λ c. omega arith)
+    (λ c. omega arith)
     loop-again
     returns-2)

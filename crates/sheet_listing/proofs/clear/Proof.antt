@@ -19,9 +19,6 @@ loop-holds c = clearing-start _
 slice-write-out : tie.Need-slice-write-out Inv-loop μ-loop
 slice-write-out c = c .loop-test .taken
 
-add-i : tie.Need-add-i Inv-loop μ-loop
-add-i c = omega arith
-
 loop-less : tie.Need-loop-less Inv-loop μ-loop
 loop-less c = omega (arith, put-size (c .before .loop .inv .put))
 
@@ -42,7 +39,7 @@ clear-spec =
     μ-loop
     loop-holds
     slice-write-out
-    add-i
+    (λ c. omega arith)
     loop-less
     loop-again
     same-length

@@ -11,15 +11,9 @@ returns : tie.Need-returns
 unfolding finished
 returns c = rw (le-leb _ _ (c .if1 .taken))
 
-clear-requires : tie.Need-clear-requires
-clear-requires c κs = search needs
-
-same-length : tie.Need-same-length
-same-length c = search needs
-
 returns-2 : tie.Need-returns-2
 unfolding finished
 returns-2 c = rw (lt-leb _ _ (c .before .before .before .before .if1 .left)) (ap (listed 0) (c .before .before .clear .ensures))
 
 pub finish-spec : {M : Type 1} → statement M
-finish-spec = tie.close (tie.spec returns clear-requires same-length returns-2)
+finish-spec = tie.close (tie.spec returns (λ c κs. search needs) (λ c. search needs) returns-2)

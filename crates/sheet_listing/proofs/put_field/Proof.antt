@@ -13,17 +13,8 @@ put-gap-of-returns c = put-gap-of-put-number (c .before .before)
 
 -- ---- end of places
 
-put-gap-requires : tie.Need-put-gap-requires
-put-gap-requires c κs = search needs
-
-put-number-requires : tie.Need-put-number-requires
-put-number-requires c κs = search needs
-
-same-length : tie.Need-same-length
-same-length c = search needs
-
 returns : tie.Need-returns
 returns c = put-then (put-gap-of-returns c .put-gap .ensures) (c .before .before .put-number .ensures)
 
 pub put-field-spec : {M : Type 1} → statement M
-put-field-spec = tie.close (tie.spec put-gap-requires put-number-requires same-length returns)
+put-field-spec = tie.close (tie.spec (λ c κs. search needs) (λ c κs. search needs) (λ c. search needs) returns)

@@ -23,20 +23,8 @@ put-gap-of-returns c = put-gap-of-put-text (c .before .before)
 
 -- ---- end of places
 
-mul-p : tie.Need-mul-p
-mul-p c = search needs
-
-element-copy-out-p : tie.Need-element-copy-out-p
-element-copy-out-p c = search needs
-
-put-gap-requires : tie.Need-put-gap-requires
-put-gap-requires c κs = search needs
-
 put-text-requires : tie.Need-put-text-requires
 put-text-requires c κs = let s = entry-of-put-text-arg c in s .pre .0 .inside (s .args .i) (s .pre .1)
-
-same-length : tie.Need-same-length
-same-length c = search needs
 
 returns : tie.Need-returns
 unfolding nameAt
@@ -45,4 +33,4 @@ returns c = put-then (put-gap-of-returns c .put-gap .ensures) (c .before .before
 pub put-name-spec : {M : Type 1} → statement M
 put-name-spec =
     tie.close
-    (tie.spec mul-p element-copy-out-p put-gap-requires put-text-requires same-length returns)
+    (tie.spec (λ c. search needs) (λ c. search needs) (λ c κs. search needs) put-text-requires (λ c. search needs) returns)

@@ -51,33 +51,21 @@ mul-v c = omega (arith, c .before .loop .inv .1, entry-of-in-loop c .pre .0 .few
 element-copy-out-v : tie.Need-element-copy-out-v Inv-loop μ-loop
 element-copy-out-v c = omega (arith, c .before .loop .inv .1, entry-of-in-loop c .pre .0 .few, entry-of-in-loop c .pre .1)
 
-add-i : tie.Need-add-i Inv-loop μ-loop
-add-i c = omega arith
-
 put-name-requires : tie.Need-put-name-requires Inv-loop μ-loop
 put-name-requires c κs =
     let l = in-loop-of-put-name-arg c in
     let p = entry-of-in-loop l .pre in
     (p .0, omega (arith, l .loop-test .taken, l .before .loop .inv .1, p .1))
 
-loop-less : tie.Need-loop-less Inv-loop μ-loop
-loop-less c = omega arith
-
 loop-again : tie.Need-loop-again Inv-loop μ-loop
 loop-again c =
     let l = in-loop-of-again c in
     (naming-takes (l .before .loop .inv .0) (named (entry-of-in-loop l)) (omega (arith, l .loop-test .taken, l .before .loop .inv .1)) (then1-of-again c .if1 .taken) (c .before .before .put-name .ensures), l .before .loop .inv .1)
 
-loop-less-2 : tie.Need-loop-less-2 Inv-loop μ-loop
-loop-less-2 c = omega arith
-
 loop-again-2 : tie.Need-loop-again-2 Inv-loop μ-loop
 loop-again-2 c =
     let l = c .before .before .before in
     (naming-skips (l .before .loop .inv .0) (named (entry-of-in-loop l)) (omega (arith, l .loop-test .taken, l .before .loop .inv .1)) (c .if1 .left), l .before .loop .inv .1)
-
-put-byte-requires : tie.Need-put-byte-requires Inv-loop μ-loop
-put-byte-requires c κs = search needs
 
 same-length : tie.Need-same-length Inv-loop μ-loop
 same-length c = c .before .before .put-byte .kept .0 ∙ put-size (loop-of-returns c .loop .inv .0 .putting .put)
@@ -96,12 +84,12 @@ put-names-spec =
     loop-holds
     mul-v
     element-copy-out-v
-    add-i
+    (λ c. omega arith)
     put-name-requires
-    loop-less
+    (λ c. omega arith)
     loop-again
-    loop-less-2
+    (λ c. omega arith)
     loop-again-2
-    put-byte-requires
+    (λ c κs. search needs)
     same-length
     returns)

@@ -47,22 +47,10 @@ mul-put-field c = omega (arith, entry-of-put-field-arg c .good, entry-of-put-fie
 shared-slice-read-put-field : tie.Need-shared-slice-read-put-field Inv-loop μ-loop
 shared-slice-read-put-field c = omega (arith, entry-of-read-put-field c .pre .ends)
 
-put-field-requires : tie.Need-put-field-requires Inv-loop μ-loop
-put-field-requires c κs = search needs
-
-add-i : tie.Need-add-i Inv-loop μ-loop
-add-i c = omega arith
-
-loop-less : tie.Need-loop-less Inv-loop μ-loop
-loop-less c = omega arith
-
 loop-again : tie.Need-loop-again Inv-loop μ-loop
 loop-again c =
     let l = in-loop-of-again c in
     lining-more (l .before .loop .inv) (l .loop-test .taken) (entry-of-in-loop l .pre .ends) (c .before .before .put-field .ensures)
-
-put-byte-requires : tie.Need-put-byte-requires Inv-loop μ-loop
-put-byte-requires c κs = search needs
 
 same-length : tie.Need-same-length Inv-loop μ-loop
 same-length c = c .before .before .put-byte .kept .0 ∙ put-size (loop-of-returns c .loop .inv .putting .put)
@@ -79,10 +67,10 @@ put-row-spec =
     loop-holds
     mul-put-field
     shared-slice-read-put-field
-    put-field-requires
-    add-i
-    loop-less
+    (λ c κs. search needs)
+    (λ c. omega arith)
+    (λ c. omega arith)
     loop-again
-    put-byte-requires
+    (λ c κs. search needs)
     same-length
     returns)

@@ -19,22 +19,10 @@ put-names-of-returns c = put-rows-of-returns c .before .before .before .before
 
 -- ---- end of places
 
-put-names-requires : tie.Need-put-names-requires
-put-names-requires c κs = search needs
-
-put-rows-requires : tie.Need-put-rows-requires
-put-rows-requires c κs = search needs
-
-finish-requires : tie.Need-finish-requires
-finish-requires c κs = search needs
-
-same-length : tie.Need-same-length
-same-length c = search needs
-
 returns : tie.Need-returns
 unfolding listing
 returns c = c .before .before .finish .ensures ∙ finished-listed (put-then (put-names-of-returns c .put-names .ensures) (put-rows-of-returns c .put-rows .ensures))
 
 pub write-listing-spec : {M : Type 1} → statement M
 write-listing-spec =
-    tie.close (tie.spec put-names-requires put-rows-requires finish-requires same-length returns)
+    tie.close (tie.spec (λ c κs. search needs) (λ c κs. search needs) (λ c κs. search needs) (λ c. search needs) returns)

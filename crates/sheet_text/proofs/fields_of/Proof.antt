@@ -5,9 +5,6 @@ use native.Mathlib.Omega.{arith}
 use Rattle.sheet_text.proofs.fields_of.Statement.{statement}
 use Rattle.sheet_text.proofs.fields_of.Tie as tie
 
-cut-requires : tie.Need-cut-requires
-cut-requires c κs = search needs
-
 returns : tie.Need-returns
 returns c = one-field (c .before .cut .ensures) (c .if1 .taken)
 
@@ -44,7 +41,7 @@ pub fields-of-spec : {M : Type 1} → statement M
 fields-of-spec =
     tie.close
     (tie.spec
-    cut-requires
+    (λ c κs. search needs)
     returns
     add-cut
     cut-requires-2

@@ -9,17 +9,11 @@ use Rattle.sheet_text.proofs.is_name.Tie as tie
 returns : tie.Need-returns
 returns c = no-name _ (c .before .before .args .a) _ (c .before .before .pre .ends) (omega arith)
 
-sub-if2 : tie.Need-sub-if2
-sub-if2 c = search needs
-
 returns-2 : tie.Need-returns-2
 returns-2 c = long-name _ _ _ (c .before .before .before .pre .ends) (c .if2 .taken)
-
-all-within-requires : tie.Need-all-within-requires
-all-within-requires c κs = search needs
 
 returns-3 : tie.Need-returns-3
 returns-3 c = c .all-within .ensures ∙ name-by-letters _ _ _ (c .before .before .before .before .pre .ends) (omega arith) (c .before .if2 .left)
 
 pub is-name-spec : {M : Type 1} → statement M
-is-name-spec = tie.close (tie.spec returns sub-if2 returns-2 all-within-requires returns-3)
+is-name-spec = tie.close (tie.spec returns (λ c. search needs) returns-2 (λ c κs. search needs) returns-3)

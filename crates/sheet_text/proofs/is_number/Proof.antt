@@ -18,23 +18,11 @@ entry-of-then3 c = entry-of-else1 (c .before .before .before)
 returns : tie.Need-returns
 returns c = no-number _ (c .before .before .args .a) _ (c .before .before .pre .ends) (omega arith)
 
-sub-if2 : tie.Need-sub-if2
-sub-if2 c = search needs
-
 returns-2 : tie.Need-returns-2
 returns-2 c = long-number _ _ _ (c .before .before .before .pre .ends) (c .if2 .taken)
 
-shared-slice-read-if3 : tie.Need-shared-slice-read-if3
-shared-slice-read-if3 c = search needs
-
-sub-result : tie.Need-sub-result
-sub-result c = search needs
-
 returns-3 : tie.Need-returns-3
 returns-3 c = zero-number _ _ _ (entry-of-then3 c .pre .ends) (omega arith) (c .if3 .taken)
-
-all-within-requires : tie.Need-all-within-requires
-all-within-requires c κs = search needs
 
 returns-4 : tie.Need-returns-4
 returns-4 c =
@@ -46,10 +34,10 @@ is-number-spec =
     tie.close
     (tie.spec
     returns
-    sub-if2
+    (λ c. search needs)
     returns-2
-    shared-slice-read-if3
-    sub-result
+    (λ c. search needs)
+    (λ c. search needs)
     returns-3
-    all-within-requires
+    (λ c κs. search needs)
     returns-4)

@@ -11,38 +11,17 @@ Inv-loop s a e t b f i₀ j₀ i j = Comparing s a e t b f i j
 abbrev μ-loop : tie.MeasureT-loop
 μ-loop s a e t b f i₀ j₀ i j = e - i
 
-sub-if1 : tie.Need-sub-if1 Inv-loop μ-loop
-sub-if1 c = omega arith
-
-sub-if1-2 : tie.Need-sub-if1-2 Inv-loop μ-loop
-sub-if1-2 c = omega arith
-
 returns : tie.Need-returns Inv-loop μ-loop
 returns c = other-length _ _ _ _ _ _ (c .before .pre .0 .ends) (c .before .pre .1 .ends) (c .if1 .taken)
 
 loop-holds : tie.Need-loop-holds Inv-loop μ-loop
 loop-holds c = compare-starts _ _ _ _ _ _ (c .before .pre .0 .ends) (c .before .pre .1 .ends) (c .before .pre .0 .ordered) (c .before .pre .1 .ordered) (omega arith)
 
-shared-slice-read-if2 : tie.Need-shared-slice-read-if2 Inv-loop μ-loop
-shared-slice-read-if2 c = omega arith
-
-shared-slice-read-if2-2 : tie.Need-shared-slice-read-if2-2 Inv-loop μ-loop
-shared-slice-read-if2-2 c = omega arith
-
 returns-2 : tie.Need-returns-2 Inv-loop μ-loop
 returns-2 c =
     let l = c .before .before .before in
     let p = l .before .before .before .pre in
     compare-stops _ _ _ _ _ _ (p .0 .ends) (p .1 .ends) (l .before .loop .inv) (l .loop-test .taken) (c .if2 .taken)
-
-add-i : tie.Need-add-i Inv-loop μ-loop
-add-i c = omega arith
-
-add-j : tie.Need-add-j Inv-loop μ-loop
-add-j c = omega arith
-
-loop-less : tie.Need-loop-less Inv-loop μ-loop
-loop-less c = omega arith
 
 loop-again : tie.Need-loop-again Inv-loop μ-loop
 loop-again c =
@@ -59,15 +38,15 @@ same-text-spec =
     (tie.spec
     Inv-loop
     μ-loop
-    sub-if1
-    sub-if1-2
+    (λ c. omega arith)
+    (λ c. omega arith)
     returns
     loop-holds
-    shared-slice-read-if2
-    shared-slice-read-if2-2
+    (λ c. omega arith)
+    (λ c. omega arith)
     returns-2
-    add-i
-    add-j
-    loop-less
+    (λ c. omega arith)
+    (λ c. omega arith)
+    (λ c. omega arith)
     loop-again
     returns-3)

@@ -17,9 +17,6 @@ loop-holds c = value-starts _ _ _ (c .pre .0) (c .pre .1)
 mul-n : tie.Need-mul-n Inv-loop μ-loop
 mul-n c = let v = value-small (c .before .loop .inv) (c .before .before .pre .0 .ends) in omega arith
 
-shared-slice-read-n : tie.Need-shared-slice-read-n Inv-loop μ-loop
-shared-slice-read-n c = omega arith
-
 sub-n : tie.Need-sub-n Inv-loop μ-loop
 sub-n c = let l = c .before in let d = digit (l .before .loop .inv) (l .before .before .pre .0 .ends) (l .loop-test .taken) in omega (arith, d .0)
 
@@ -32,12 +29,6 @@ add-n c =
     let v = value-small (l .before .loop .inv) (l .before .before .pre .0 .ends) in
     let d = digit (l .before .loop .inv) (l .before .before .pre .0 .ends) (l .loop-test .taken) in
     omega (arith, d .1)
-
-add-i : tie.Need-add-i Inv-loop μ-loop
-add-i c = omega arith
-
-loop-less : tie.Need-loop-less Inv-loop μ-loop
-loop-less c = omega arith
 
 loop-again : tie.Need-loop-again Inv-loop μ-loop
 loop-again c = let l = c .before in value-goes-on (l .before .loop .inv) (l .before .before .pre .0 .ends) (l .loop-test .taken)
@@ -53,11 +44,11 @@ value-of-spec =
     μ-loop
     loop-holds
     mul-n
-    shared-slice-read-n
+    (λ c. omega arith)
     sub-n
     cast-n
     add-n
-    add-i
-    loop-less
+    (λ c. omega arith)
+    (λ c. omega arith)
     loop-again
     returns)

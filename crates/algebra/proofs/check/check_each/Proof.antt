@@ -44,21 +44,6 @@ entry-of-else1 c = loop-of-else1 c .before .before .before
 loop-holds : tie.Need-loop-holds Inv-loop μ-loop
 loop-holds c = (omega arith, refl)
 
-instruction-at-requires : tie.Need-instruction-at-requires Inv-loop μ-loop
-instruction-at-requires c κs = omega arith
-
-cast-place : tie.Need-cast-place Inv-loop μ-loop
-cast-place c = omega arith
-
-is-valid-requires : tie.Need-is-valid-requires Inv-loop μ-loop
-is-valid-requires c κs = search needs
-
-add-i : tie.Need-add-i Inv-loop μ-loop
-add-i c = omega arith
-
-loop-less : tie.Need-loop-less Inv-loop μ-loop
-loop-less c = omega arith
-
 -- the instruction that is read is that of the list
 valid : (c : tie.After-is-valid Inv-loop μ-loop) →
     isValid (entry-of-is-valid c .args .feed .now) (c .before .before .before .loop .i)
@@ -99,11 +84,11 @@ check-each-spec =
     Inv-loop
     μ-loop
     loop-holds
-    instruction-at-requires
-    cast-place
-    is-valid-requires
-    add-i
-    loop-less
+    (λ c κs. omega arith)
+    (λ c. omega arith)
+    (λ c κs. search needs)
+    (λ c. omega arith)
+    (λ c. omega arith)
     loop-again
     returns
     returns-2)

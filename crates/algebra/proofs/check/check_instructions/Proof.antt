@@ -21,9 +21,6 @@ entry-of-check-list-requires c = entry-of-check-feed (c .before .before)
 
 -- ---- end of places
 
-check-feed-requires : tie.Need-check-feed-requires
-check-feed-requires c κs = search needs
-
 enum-told : tie.Need-enum-told
 enum-told c = search needs
 
@@ -44,4 +41,4 @@ returns-2 c = rw (feed-is-accepted (c .before)) (c .check-list .ensures)
 
 pub check-instructions-spec : {M : Type 1} → statement M
 check-instructions-spec =
-    tie.close (tie.spec check-feed-requires enum-told returns check-list-requires returns-2)
+    tie.close (tie.spec (λ c κs. search needs) enum-told returns check-list-requires returns-2)

@@ -19,12 +19,9 @@ returns-3 : tie.Need-returns-3
 unfolding verdictOf checkInstructionList unless _then_
 returns-3 c = rw (le-leb _ _ (c .before .before .if1 .left), le-leb _ _ (c .before .if2 .left), ne-eqb _ _ (c .if3 .taken))
 
-check-each-requires : tie.Need-check-each-requires
-check-each-requires c κs = search needs
-
 returns-4 : tie.Need-returns-4
 unfolding checkInstructionList unless _then_
 returns-4 c = rw (le-leb _ _ (c .before .before .before .if1 .left), le-leb _ _ (c .before .before .if2 .left), eq-eqb _ _ (c .before .if3 .left)) (c .check-each .ensures)
 
 pub check-list-spec : {M : Type 1} → statement M
-check-list-spec = tie.close (tie.spec returns returns-2 returns-3 check-each-requires returns-4)
+check-list-spec = tie.close (tie.spec returns returns-2 returns-3 (λ c κs. search needs) returns-4)
