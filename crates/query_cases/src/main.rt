@@ -60,7 +60,15 @@ fn show_rows(name: &[u8], feed: &[u32], d: Drawing, rows: &mut [u32]) {
     let mut work = [0u32; 200];
     let mut number = 0;
     let mut place = 0;
-    let part = query(feed, &words[0..n], &mut list, &mut work, rows, &mut number, &mut place);
+    let part = query(
+        feed,
+        &words[0..n],
+        &mut list,
+        &mut work,
+        rows,
+        &mut number,
+        &mut place,
+    );
     show(name, number, place, part);
 }
 
@@ -114,7 +122,11 @@ fn waiting() {
     let edge = Drawing::empty().with_edge(0, 0, 1);
     show_line(b"an edge before its nodes", edge);
     show_check(b"its check", &feed, edge.drawing);
-    show_check(b"its nodes added", &feed, edge.drawing.with_node(0, 1).drawing);
+    show_check(
+        b"its nodes added",
+        &feed,
+        edge.drawing.with_node(0, 1).drawing,
+    );
     let unpicked = Drawing::empty().with_node(0, 0);
     show_line(b"no node picked", unpicked);
     show_check(b"its check", &feed, unpicked.drawing);
