@@ -1,3 +1,4 @@
-pub mod Check
+pub mod Builder
+pub mod Checks
 pub mod Embeddings
-pub mod Words
+pub mod Encoding

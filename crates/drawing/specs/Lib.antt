@@ -1,4 +1,4 @@
+pub mod Builder
 pub mod Drawing
 pub mod Embeddings
-pub mod Answers
 pub mod inner

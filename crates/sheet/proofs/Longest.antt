@@ -23,7 +23,7 @@ use Rattle.feed.proofs.Feed.{class-sides, class-sound}
 use Rattle.drawing.specs.declared.Node.{Node}
 use Rattle.drawing.specs.Drawing.{Pattern, node, isPicked, patternOf}
 use Rattle.drawing.specs.Embeddings.{picked, rows}
-use Rattle.drawing.proofs.Check.{drawing-feed}
+use Rattle.drawing.proofs.Checks.{drawing-feed}
 use Rattle.drawing.proofs.Embeddings.{in-rows}
 use Rattle.query.specs.Query.{pickCount, query}
 use Rattle.sheet_text.specs.Text.{bytes, digits, digitsBefore}

@@ -20,7 +20,7 @@ use Rattle.feed.proofs.Feed.{class-sides}
 use Rattle.drawing.specs.declared.Node.{Node}
 use Rattle.drawing.specs.Drawing.{Pattern, patternOf, nodeCount, isPicked, checkLength, checkDrawing}
 use Rattle.drawing.specs.Embeddings.{rows}
-use Rattle.drawing.proofs.Check.{drawing-feed, drawing-checked}
+use Rattle.drawing.proofs.Checks.{drawing-feed, drawing-checked}
 use Rattle.drawing.proofs.Words.{lengths}
 use Rattle.algebra.specs.Instructions.{Instruction}
 use Rattle.translator.specs.Translation.{translation, checkList}

@@ -1,2 +1,0 @@
-pub mod Builder
-pub mod inner

@@ -1,0 +1,33 @@
+-- `check::check_words` meets its contract: the length first, then what the words show. Assumes nothing.
+use mathlib.Core.Path.{_∙_, sym}
+use Rattle.answers.specs.Verdict.{unless, _then_}
+use Rattle.answers.specs.Answers.{verdictOf}
+use borrow.Author.Needs.{needs}
+use Rattle.drawing.proofs.check.check_words.Statement.{statement}
+use Rattle.drawing.proofs.check.check_words.Tie as tie
+
+right-length-requires : tie.Need-right-length-requires
+right-length-requires c κs = search needs
+
+read-drawing-requires : tie.Need-read-drawing-requires
+unfolding unless
+read-drawing-requires c κs = sym (c .before .right-length .ensures) ∙ rw (c .if1 .taken)
+
+check-pattern-requires : tie.Need-check-pattern-requires
+check-pattern-requires c κs = search needs
+
+returns : tie.Need-returns
+unfolding unless _then_
+returns c =
+    let read = c .before in
+    let test = read .before in
+    rw (← test .before .right-length .ensures, test .if1 .taken, ← read .read-drawing .ensures .shown) (c .check-pattern .ensures)
+
+returns-2 : tie.Need-returns-2
+unfolding verdictOf unless _then_
+returns-2 c = rw (← c .before .right-length .ensures, c .if1 .left)
+
+pub check-words-spec : {M : Type 1} → statement M
+check-words-spec =
+    tie.close
+    (tie.spec right-length-requires read-drawing-requires check-pattern-requires returns returns-2)

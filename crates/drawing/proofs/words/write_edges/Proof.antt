@@ -1,0 +1,85 @@
+-- `words::write_edges` meets its contract. The loop's invariant: the words of the edges from i on are left. Assumes nothing.
+use mathlib.Core.Path.{_≡_}
+use Prim.Native.Nat.{_-_, _≤_}
+use mathlib.Core.List.{flatMap}
+use lib.ListN.{length, getD, take, drop}
+use Rattle.limits.specs.Limits.{mostEdges}
+use Rattle.tables.proofs.Putting.{Putting, putting-start, putting-same, putting-more, putting-room, putting-end}
+use Rattle.drawing.specs.Drawing.{noEdge, edgeWidth, edgeWords}
+use Rattle.drawing.specs.Builder.{view}
+use Rattle.drawing.proofs.Builder.{roomy, few}
+use Rattle.drawing.proofs.Encoding.{words-next, words-none, length-words, edge-width}
+use borrow.Author.Needs.{needs}
+use native.Mathlib.Omega.{arith}
+use Rattle.drawing.proofs.words.write_edges.Statement.{statement}
+use Rattle.drawing.proofs.words.write_edges.Tie as tie
+
+abbrev Inv-loop : tie.InvT-loop
+Inv-loop words₀ at d e out₀ i₀ words out i =
+    (i ≤ e) × (e ≡ length (take (d .e) (d .edges))) × (e ≤ mostEdges)
+    × Putting words₀ words at out (flatMap edgeWords (take (d .e) (d .edges))) (flatMap edgeWords (drop i (take (d .e) (d .edges))))
+
+abbrev μ-loop : tie.MeasureT-loop
+μ-loop words₀ at d e out₀ i₀ words out i = e - i
+
+edge-count-requires : tie.Need-edge-count-requires Inv-loop μ-loop
+edge-count-requires c κs = search needs
+
+loop-holds : tie.Need-loop-holds Inv-loop μ-loop
+unfolding view
+loop-holds c = let s = c .before .before in let f = few (s .args .t3) (roomy _ (s .good .1 .1 .0)) in (omega arith, c .edge-count .ensures, omega (arith, f .edges), putting-start _ _ _)
+
+mul-x : tie.Need-mul-x Inv-loop μ-loop
+mul-x c = omega arith
+
+element-copy-out-x : tie.Need-element-copy-out-x Inv-loop μ-loop
+element-copy-out-x c = omega arith
+
+put-three-requires : tie.Need-put-three-requires Inv-loop μ-loop
+unfolding view edgeWords
+put-three-requires c κs =
+    let head = c .before .before .before in
+    let s = head .before .before .before in
+    let d = s .args .t3 in
+    let size = length-words edgeWords edgeWidth edge-width (take (d .e) (d .edges)) in
+    let next = words-next edgeWords (d .e) (d .edges) (head .loop .i) noEdge (omega (arith, head .loop .inv .1)) in
+    putting-room (edgeWords (getD (d .edges) (head .loop .i) noEdge)) _ next (head .loop .inv .3) (omega (arith, s .pre))
+
+add-i : tie.Need-add-i Inv-loop μ-loop
+add-i c = omega arith
+
+loop-less : tie.Need-loop-less Inv-loop μ-loop
+loop-less c = omega arith
+
+loop-again : tie.Need-loop-again Inv-loop μ-loop
+unfolding edgeWords
+loop-again c =
+    let put = c .before .before in
+    let head = put .before .before .before .before in
+    let d = head .before .before .before .args .t3 in
+    let next = words-next edgeWords (d .e) (d .edges) (head .loop .i) noEdge (omega (arith, head .loop .inv .1)) in
+    (omega arith, head .loop .inv .1, head .loop .inv .2, putting-more next (head .loop .inv .3) (put .put-three .ensures))
+
+same-length : tie.Need-same-length Inv-loop μ-loop
+same-length c = c .before .loop .inv .3 .size
+
+returns : tie.Need-returns Inv-loop μ-loop
+unfolding view
+returns c = putting-end (putting-same (words-none edgeWords _ (c .before .loop .i) (omega (arith, c .before .loop .inv .1))) (c .before .loop .inv .3))
+
+pub write-edges-spec : {M : Type 1} → statement M
+write-edges-spec =
+    tie.close
+    (tie.spec
+    Inv-loop
+    μ-loop
+    edge-count-requires
+    loop-holds
+    mul-x
+    element-copy-out-x
+    put-three-requires
+    add-i
+    loop-less
+    loop-again
+    same-length
+    returns)

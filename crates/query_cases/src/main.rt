@@ -1,0 +1,141 @@
+// Cases of the query. Drawings are built line by line, written out as words, checked and asked; the rows are printed from the part of the row
+// slice that the query hands back. Each case prints a line: its name, number and place, then words.
+
+use answers::say;
+use drawing::Built;
+use drawing::Drawing;
+use drawing::check::check_drawing;
+use query::query;
+
+// Prints a text, then a number.
+fn print(text: &[u8], n: u32) {
+    io::write_all(1, text);
+    io::print_decimal(1, n as u64);
+}
+
+// Prints a case's name, number and place, then some words.
+fn show(name: &[u8], number: u32, place: u32, words: &[u32]) {
+    io::write_all(1, name);
+    print(b": ", number);
+    print(b" ", place);
+    io::write_all(1, b":");
+    let mut i = 0;
+    while i < words.len() {
+        print(b" ", words[i]);
+        i += 1;
+    }
+    io::write_all(1, b"\n");
+}
+
+// A line's answer, and how many nodes and edges the drawing has after it.
+fn show_line(name: &[u8], built: Built) {
+    let answer = built.answer;
+    let d = built.drawing;
+    let mut place = 0;
+    let number = say(answer, &mut place);
+    let counts = [d.node_count() as u32, d.edge_count() as u32];
+    show(name, number, place, &counts);
+}
+
+// The words of a drawing, and what its check says of them.
+fn show_check(name: &[u8], feed: &[u32], d: Drawing) {
+    let mut words = [0u32; 98];
+    let n = d.write(&mut words);
+    if words.len() < n {
+        return;
+    }
+    let mut place = 0;
+    let number = say(check_drawing(feed, &words[0..n]), &mut place);
+    show(name, number, place, &words[0..n]);
+}
+
+// The rows of a drawing, in the part that the query hands back of a slice of so many words.
+fn show_rows(name: &[u8], feed: &[u32], d: Drawing, rows: &mut [u32]) {
+    let mut words = [0u32; 98];
+    let n = d.write(&mut words);
+    if words.len() < n {
+        return;
+    }
+    let mut list = [0u32; 3072];
+    let mut work = [0u32; 200];
+    let mut number = 0;
+    let mut place = 0;
+    let part = query(
+        feed,
+        &words[0..n],
+        &mut list,
+        &mut work,
+        rows,
+        &mut number,
+        &mut place,
+    );
+    show(name, number, place, part);
+}
+
+// Three nodes of class 0 in a row, the two outer ones picked, as in document 01's sheet.
+fn row_of_three() -> Drawing {
+    let a = Drawing::empty().with_node(0, 1).drawing;
+    let m = a.with_node(0, 0).drawing;
+    let b = m.with_node(0, 1).drawing;
+    let first = b.with_edge(0, 0, 1).drawing;
+    first.with_edge(0, 1, 2).drawing
+}
+
+// Document 01's sheet: its words, its rows, and no part of a slice that is too short.
+fn sheet() {
+    let feed = [1u32, 1, 4, 3, 1, 1, 2, 2, 3, 3, 4, 4, 1, 2, 2, 3, 3, 4];
+    let d = row_of_three();
+    show_check(b"sheet", &feed, d);
+    let mut nine = [7u32; 9];
+    show_rows(b"its rows", &feed, d, &mut nine);
+    show(b"the slice", 0, 0, &nine);
+    let mut four = [7u32; 4];
+    show_rows(b"in four words", &feed, d, &mut four);
+    let mut three = [7u32; 3];
+    show_rows(b"in three words", &feed, d, &mut three);
+    show(b"the slice", 0, 0, &three);
+}
+
+// Twelve nodes and one more, 24 edges and one more.
+fn full() {
+    let mut d = Drawing::empty();
+    let mut i = 0;
+    while i < 12 {
+        d = d.with_node(0, 1).drawing;
+        i += 1;
+    }
+    show_line(b"13th node", d.with_node(0, 1));
+    i = 0;
+    while i < 24 {
+        d = d.with_edge(0, 0, 1).drawing;
+        i += 1;
+    }
+    show_line(b"25th edge", d.with_edge(0, 0, 1));
+}
+
+// A line takes any words: 6 and 7 wait for the drawing's check.
+fn waiting() {
+    let feed = [1u32, 1, 1, 0, 5, 5];
+    let missing = Drawing::empty().with_node(3, 1);
+    show_line(b"a class that does not exist", missing);
+    show_check(b"its check", &feed, missing.drawing);
+    let edge = Drawing::empty().with_edge(0, 0, 1);
+    show_line(b"an edge before its nodes", edge);
+    show_check(b"its check", &feed, edge.drawing);
+    show_check(
+        b"its nodes added",
+        &feed,
+        edge.drawing.with_node(0, 1).drawing,
+    );
+    let unpicked = Drawing::empty().with_node(0, 0);
+    show_line(b"no node picked", unpicked);
+    show_check(b"its check", &feed, unpicked.drawing);
+    let mut rows = [7u32; 2];
+    show_rows(b"its rows", &feed, unpicked.drawing, &mut rows);
+}
+
+fn main() {
+    sheet();
+    full();
+    waiting();
+}
