@@ -13,17 +13,22 @@ fn print(text: &[u8], n: u32) {
     io::print_decimal(1, n as u64);
 }
 
+// Prints some words.
+fn print_words(words: &[u32]) {
+    let mut i = 0;
+    while i < words.len() {
+        print(b" ", words[i]);
+        i += 1;
+    }
+}
+
 // Prints a case's name, number and place, then some words.
 fn show(name: &[u8], number: u32, place: u32, words: &[u32]) {
     io::write_all(1, name);
     print(b": ", number);
     print(b" ", place);
     io::write_all(1, b":");
-    let mut i = 0;
-    while i < words.len() {
-        print(b" ", words[i]);
-        i += 1;
-    }
+    print_words(words);
     io::write_all(1, b"\n");
 }
 
@@ -33,8 +38,14 @@ fn show_line(name: &[u8], built: Built) {
     let d = built.drawing;
     let mut place = 0;
     let number = say(answer, &mut place);
-    let counts = [d.node_count() as u32, d.edge_count() as u32];
-    show(name, number, place, &counts);
+    io::write_all(1, name);
+    print(b": ", number);
+    print(b" ", place);
+    io::write_all(1, b": nodes ");
+    io::print_decimal(1, d.node_count() as u64);
+    io::write_all(1, b", edges ");
+    io::print_decimal(1, d.edge_count() as u64);
+    io::write_all(1, b"\n");
 }
 
 // The words of a drawing, and what its check says of them.
@@ -96,21 +107,27 @@ fn sheet() {
     show(b"the slice", 0, 0, &three);
 }
 
+// Three nodes more.
+fn nodes(d: Drawing) -> Drawing {
+    let first = d.with_node(0, 1).drawing;
+    let second = first.with_node(0, 1).drawing;
+    second.with_node(0, 1).drawing
+}
+
+// Four edges more.
+fn edges(d: Drawing) -> Drawing {
+    let first = d.with_edge(0, 0, 1).drawing;
+    let second = first.with_edge(0, 0, 1).drawing;
+    let third = second.with_edge(0, 0, 1).drawing;
+    third.with_edge(0, 0, 1).drawing
+}
+
 // Twelve nodes and one more, 24 edges and one more.
 fn full() {
-    let mut d = Drawing::empty();
-    let mut i = 0;
-    while i < 12 {
-        d = d.with_node(0, 1).drawing;
-        i += 1;
-    }
-    show_line(b"13th node", d.with_node(0, 1));
-    i = 0;
-    while i < 24 {
-        d = d.with_edge(0, 0, 1).drawing;
-        i += 1;
-    }
-    show_line(b"25th edge", d.with_edge(0, 0, 1));
+    let n = nodes(nodes(nodes(nodes(Drawing::empty()))));
+    show_line(b"12 nodes and one more", n.with_node(0, 1));
+    let e = edges(edges(edges(edges(edges(edges(n))))));
+    show_line(b"24 edges and one more", e.with_edge(0, 0, 1));
 }
 
 // A line takes any words: 6 and 7 wait for the drawing's check.

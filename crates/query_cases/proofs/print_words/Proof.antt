@@ -1,0 +1,56 @@
+-- `query_cases::print_words` is safe and ends: each turn leaves fewer words.
+-- Assumes nothing.
+use Prim.Native.Nat.{_-_}
+use borrow.Author.Needs.{needs}
+use lib.ListN.{length}
+use Rattle.query_cases.proofs.print_words.Statement.{statement}
+use Rattle.query_cases.proofs.print_words.Tie as tie
+
+abbrev Inv-loop : tie.InvT-loop
+Inv-loop words i₀ t3 i = Unit
+
+abbrev μ-loop : tie.MeasureT-loop
+μ-loop words i₀ t3 i = length words - i
+
+loop-holds : tie.Need-loop-holds Inv-loop μ-loop
+loop-holds c = search needs
+
+slice-aggregate-print : tie.Need-slice-aggregate-print Inv-loop μ-loop
+slice-aggregate-print c = search needs
+
+mul-print : tie.Need-mul-print Inv-loop μ-loop
+mul-print c = search needs
+
+shared-slice-read-print : tie.Need-shared-slice-read-print Inv-loop μ-loop
+shared-slice-read-print c = search needs
+
+print-requires : tie.Need-print-requires Inv-loop μ-loop
+print-requires c κs = search needs
+
+add-i : tie.Need-add-i Inv-loop μ-loop
+add-i c = search needs
+
+loop-less : tie.Need-loop-less Inv-loop μ-loop
+loop-less c = search needs
+
+loop-again : tie.Need-loop-again Inv-loop μ-loop
+loop-again c = search needs
+
+returns : tie.Need-returns Inv-loop μ-loop
+returns c = search needs
+
+pub print-words-spec : {M : Type 1} → statement M
+print-words-spec =
+    tie.close
+    (tie.spec
+    Inv-loop
+    μ-loop
+    loop-holds
+    slice-aggregate-print
+    mul-print
+    shared-slice-read-print
+    print-requires
+    add-i
+    loop-less
+    loop-again
+    returns)
