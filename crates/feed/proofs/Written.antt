@@ -6,11 +6,11 @@ use mathlib.Core.Path.{_≡_, refl, ap, ap₂, _∙_}
 use mathlib.Core.List.{List, [], _∷_, _++_, map}
 use Prim.Native.Nat.{ℕ, _+_, _*_}
 use native.Mathlib.Omega.{arith}
-use lib.ListN.{length, getD, take, drop, length-append, length-map}
+use lib.ListN.{length, getD, length-append, length-map}
 use lib.Seq.{take-at, drop-at, take-append-seam, drop-append-seam}
 use Rattle.tables.specs.declared.Pair.{Pair}
 use Rattle.tables.specs.Lists.{total}
-use Rattle.tables.specs.Order.{Table, pair}
+use Rattle.tables.specs.Order.{Table}
 use Rattle.tables.specs.Slices.{tableWords, tablesWords}
 use Rattle.tables.proofs.Slices.{length-tablesWords}
 use Rattle.feed.specs.Feed.{classCount, labelCount, tableCount, counts, body, pairsOf, cut, tables, classTable, labelTable, feedWords}

@@ -51,7 +51,8 @@ pub extern "C" fn matcher_translate(
 {
     let made = translate::translate(feed, drawing, list);
     *instructions = made.instructions as usize;
-    say(made.answer, place)
+    let answer = made.answer;
+    say(answer, place)
 }
 
 // Checks a feed and a drawing, translates the drawing, runs the translation and gives the rows: 1 to 7 and 10 to 13.
@@ -70,7 +71,8 @@ pub extern "C" fn matcher_query(
 {
     let given = query::query_into(feed, drawing, list, work, rows);
     *extent = given.extent;
-    say(given.answer, place)
+    let answer = given.answer;
+    say(answer, place)
 }
 
 // The listing of a sheet: its length, 0 where it does not fit.

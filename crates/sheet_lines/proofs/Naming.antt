@@ -10,14 +10,15 @@ use native.Mathlib.Omega.{arith}
 use borrow.Author.Tests.{le-leb, leb-true}
 use lib.Dec.{leb, ltb}
 use lib.ListN.{length, length-append}
-use lib.Seq.{slice}
+use Rattle.limits.specs.Limits.{mostLabels}
 use Rattle.tables.proofs.Tests.{both-true}
+use Rattle.sheet_text.specs.declared.Span.{Span}
 use Rattle.sheet_text.specs.declared.Names.{Names}
 use Rattle.sheet_text.specs.Text.{isName, same, find, known}
-use Rattle.sheet_text.specs.inner.Parts.{Inside, span, nameAt, namesOf, withName, Spans}
+use Rattle.sheet_text.specs.inner.Parts.{textAt, namesOf, withName, Spans}
 use Rattle.sheet_text.proofs.Spans.{length-names, names-longer, spans-longer}
 use Rattle.sheet_lines.specs.Reading.{numbered, fitsTable}
-use Rattle.sheet_lines.specs.inner.State.{Numbered}
+use Rattle.sheet_lines.specs.inner.State.{Fitting, Numbered}
 
 -- ---- whether a name is known
 
@@ -30,12 +31,12 @@ find-bound name (n ∷ ns) = step (same name n) (find-bound name ns)
     step true h = omega arith
     step false h = omega arith
 
-module _ {s : List ℕ} {x : Names} {ceiling : ℕ} (g : Spans s x ceiling) (c : ceiling ≤ 64) (name : List ℕ) where
+module _ {s : List ℕ} {x : Names} {ceiling : ℕ} (g : Spans s x ceiling) (c : ceiling ≤ mostLabels) (name : List ℕ) where
   pub known-is : ltb (find name (namesOf s x)) (x .n) ≡ known name (namesOf s x)
   unfolding known
   known-is = rw (length-names g c)
 
-  pub find-small : find name (namesOf s x) ≤ 64
+  pub find-small : find name (namesOf s x) ≤ mostLabels
   find-small = let h = find-bound name (namesOf s x) in omega (arith, length-names g c, g .few)
 
   -- ---- a name that fits
@@ -65,25 +66,21 @@ fits-name ceiling name names t = both-true (isName name) _ .0 t .0
 
 -- ---- the names with one that fits
 
-module _ {s : List ℕ} {x : Names} {ceiling : ℕ} (g : Spans s x ceiling) (c : ceiling ≤ 64) {a e : ℕ} (i : Inside s a e) where
-  pub stays-numbered : known (slice a e s) (namesOf s x) ≡ true → Numbered s (slice a e s) ceiling x x
+module _ {s : List ℕ} {p : Span} {x : Names} {ceiling : ℕ} (g : Fitting s p x ceiling) where
+  pub stays-numbered : known (textAt s p) (namesOf s x) ≡ true → Numbered s (textAt s p) ceiling x x
   unfolding numbered
-  stays-numbered k = record { names = rw k; spans = g }
+  stays-numbered k = record { names = rw k; spans = g .asked .spans }
 
-  pub new-fits : fitsTable ceiling (slice a e s) (namesOf s x) ≡ true → known (slice a e s) (namesOf s x) ≡ false → x .n + 1 ≤ ceiling
+  pub new-fits : known (textAt s p) (namesOf s x) ≡ false → x .n + 1 ≤ ceiling
   unfolding fitsTable numbered
-  new-fits t k =
-      let h = leb-true _ ceiling (rw k at (both-true (isName (slice a e s)) (leb (length (numbered (slice a e s) (namesOf s x))) ceiling) .0 t .1)) in
-      let l = length-append (namesOf s x) (slice a e s ∷ []) in
-      omega (arith, length-names g c)
+  new-fits k =
+      let h = leb-true _ ceiling (rw k at (both-true (isName (textAt s p)) (leb (length (numbered (textAt s p) (namesOf s x))) ceiling) .0 (g .fits) .1)) in
+      let l = length-append (namesOf s x) (textAt s p ∷ []) in
+      omega (arith, length-names (g .asked .spans) (g .asked .few))
 
-  pub new-numbered : fitsTable ceiling (slice a e s) (namesOf s x) ≡ true → known (slice a e s) (namesOf s x) ≡ false →
-      Numbered s (slice a e s) ceiling x (withName x (span a e))
-  unfolding numbered nameAt
-  new-numbered t k =
-      let n = new-fits t k in
-      let room : x .n < 64 = omega arith in
-      record {
-        names = rw k (names-longer g room (span a e));
-        spans = spans-longer g room (span a e) ceiling n i;
-      }
+  pub new-numbered : known (textAt s p) (namesOf s x) ≡ false → Numbered s (textAt s p) ceiling x (withName x p)
+  unfolding numbered
+  new-numbered k =
+      let n = new-fits k in
+      let room : x .n < mostLabels = omega (arith, g .asked .few) in
+      record { names = rw k (names-longer (g .asked .spans) room p); spans = spans-longer (g .asked .spans) room p ceiling n (g .asked .inside) }

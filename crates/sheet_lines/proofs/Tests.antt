@@ -1,57 +1,39 @@
 -- Tests: what a line gives, by the number of its fields and by the test that the line must pass.
 --
--- In order: a class line; a label line; a node line; an edge line; any line.
+-- In order: the four kinds of lines; what follows where the test is passed; any line.
 -- Assumes nothing.
 use mathlib.Core.Path.{_≡_, refl}
 use mathlib.Core.Bool.{Bool, true, false, _&&_, not}
 use mathlib.Core.List.{List, [], _∷_}
 use mathlib.Core.Option.{none}
-use Prim.Native.Nat.{ℕ, _+_, _<_, _≤_}
-use lib.Dec.{ltb}
+use Prim.Native.Nat.{ℕ, _<_, _≤_}
+use native.Mathlib.Omega.{arith}
+use borrow.Author.Tests.{eq-eqb, eqb-true}
+use lib.Dec.{eqb, ltb}
 use lib.ListN.{length, getD}
-use lib.Seq.{slice}
+use Rattle.limits.specs.Limits.{mostClasses, mostLabels, mostNodes, mostEdges}
 use Rattle.tables.specs.Order.{pair}
-use Rattle.tables.proofs.Tests.{both-true}
+use Rattle.tables.proofs.Tests.{decide, both-true, true-not-false}
 use Rattle.tables.proofs.Parts.{slice-none, slice-next}
 use Rattle.drawing.specs.Drawing.{node, edge}
+use Rattle.sheet_text.specs.declared.Span.{Span}
+use Rattle.sheet_text.specs.declared.Fields.{Fields}
 use Rattle.sheet_text.specs.Text.{fields, isName, isNumber, valueOf, same, find, known}
+use Rattle.sheet_text.specs.inner.Parts.{textAt, Two, Three, Fielded}
+use Rattle.sheet_text.proofs.Parts.{wrong-count}
 use Rattle.sheet_lines.specs.Reading.{Reading, allow, turnTo, withClasses, withLabels, withNode, withEdge, withLine, fitsTable, readClass, readLabel, readNode, readEdge, readValues, endSection, readOpened, headers, readHeader, byStage, readLine}
 
--- ---- the parts of the tests
-
-pub class-passed : (s : List ℕ) (a m e : ℕ) (names : List (List ℕ)) → (fitsTable 32 (slice a m s) names && isNumber (slice (m + 1) e s)) ≡ true →
-    (fitsTable 32 (slice a m s) names ≡ true) × (isNumber (slice (m + 1) e s) ≡ true)
-class-passed s a m e names t = both-true (fitsTable 32 (slice a m s) names) (isNumber (slice (m + 1) e s)) .0 t
-
-module _ (s : List ℕ) (a m k e : ℕ) where
-  pub label-passed : (names : List (List ℕ)) → (fitsTable 64 (slice a m s) names && isNumber (slice (m + 1) k s) && isNumber (slice (k + 1) e s)) ≡ true →
-      (fitsTable 64 (slice a m s) names ≡ true) × (isNumber (slice (m + 1) k s) ≡ true) × (isNumber (slice (k + 1) e s) ≡ true)
-  label-passed names t =
-      let r = both-true (fitsTable 64 (slice a m s) names && isNumber (slice (m + 1) k s)) (isNumber (slice (k + 1) e s)) .0 t in
-      let l = both-true (fitsTable 64 (slice a m s) names) (isNumber (slice (m + 1) k s)) .0 (r .0) in
-      (l .0, l .1, r .1)
-
-  pub pick-passed : (nodes classes : List (List ℕ)) → (isName (slice a m s) && not (known (slice a m s) nodes) && known (slice (m + 1) k s) classes && isNumber (slice (k + 1) e s)) ≡ true →
-      isNumber (slice (k + 1) e s) ≡ true
-  pick-passed nodes classes t =
-      both-true (isName (slice a m s) && not (known (slice a m s) nodes) && known (slice (m + 1) k s) classes) (isNumber (slice (k + 1) e s)) .0 t .1
-
--- ---- the lines
+-- ---- another number of fields
 
 module _ (v : Reading) where
-  pub class-fields : (fs : List (List ℕ)) → (length fs ≡ 2 → ⊥) → none ≡ readClass v fs
+  class-fields : (fs : List (List ℕ)) → (length fs ≡ 2 → ⊥) → none ≡ readClass v fs
   unfolding readClass
   class-fields [] d = refl
   class-fields (c ∷ []) d = refl
   class-fields (c ∷ o ∷ []) d = absurd (d refl)
   class-fields (c ∷ o ∷ x ∷ xs) d = refl
 
-  pub class-tested : {fs : List (List ℕ)} {c o : List ℕ} (b : Bool) → fs ≡ c ∷ o ∷ [] → (fitsTable 32 c (v .classes .names) && isNumber o) ≡ b →
-      allow b (withClasses (withLine c (pair (valueOf o) (valueOf o)) (v .classes)) v) ≡ readClass v fs
-  unfolding readClass
-  class-tested b e t = rw (e, t)
-
-  pub label-fields : (fs : List (List ℕ)) → (length fs ≡ 3 → ⊥) → none ≡ readLabel v fs
+  label-fields : (fs : List (List ℕ)) → (length fs ≡ 3 → ⊥) → none ≡ readLabel v fs
   unfolding readLabel
   label-fields [] d = refl
   label-fields (l ∷ []) d = refl
@@ -59,12 +41,7 @@ module _ (v : Reading) where
   label-fields (l ∷ x ∷ y ∷ []) d = absurd (d refl)
   label-fields (l ∷ x ∷ y ∷ z ∷ zs) d = refl
 
-  pub label-tested : {fs : List (List ℕ)} {l x y : List ℕ} (b : Bool) → fs ≡ l ∷ x ∷ y ∷ [] → (fitsTable 64 l (v .labels .names) && isNumber x && isNumber y) ≡ b →
-      allow b (withLabels (withLine l (pair (valueOf x) (valueOf y)) (v .labels)) v) ≡ readLabel v fs
-  unfolding readLabel
-  label-tested b e t = rw (e, t)
-
-  pub node-fields : (fs : List (List ℕ)) → (length fs ≡ 3 → ⊥) → none ≡ readNode v fs
+  node-fields : (fs : List (List ℕ)) → (length fs ≡ 3 → ⊥) → none ≡ readNode v fs
   unfolding readNode
   node-fields [] d = refl
   node-fields (n ∷ []) d = refl
@@ -72,13 +49,7 @@ module _ (v : Reading) where
   node-fields (n ∷ c ∷ k ∷ []) d = absurd (d refl)
   node-fields (n ∷ c ∷ k ∷ x ∷ xs) d = refl
 
-  pub node-tested : {fs : List (List ℕ)} {n c k : List ℕ} (b : Bool) → fs ≡ n ∷ c ∷ k ∷ [] →
-      (isName n && not (known n (v .names)) && known c (v .classes .names) && isNumber k) ≡ b →
-      allow (b && ltb (length (v .nodes)) 12) (withNode n (node (find c (v .classes .names)) (valueOf k)) v) ≡ readNode v fs
-  unfolding readNode
-  node-tested b e t = rw (e, t)
-
-  pub edge-fields : (fs : List (List ℕ)) → (length fs ≡ 3 → ⊥) → none ≡ readEdge v fs
+  edge-fields : (fs : List (List ℕ)) → (length fs ≡ 3 → ⊥) → none ≡ readEdge v fs
   unfolding readEdge
   edge-fields [] d = refl
   edge-fields (l ∷ []) d = refl
@@ -86,14 +57,66 @@ module _ (v : Reading) where
   edge-fields (l ∷ x ∷ y ∷ []) d = absurd (d refl)
   edge-fields (l ∷ x ∷ y ∷ z ∷ zs) d = refl
 
-  pub edge-tested : {fs : List (List ℕ)} {l x y : List ℕ} (b : Bool) → fs ≡ l ∷ x ∷ y ∷ [] →
-      (known l (v .labels .names) && known x (v .names) && known y (v .names)) ≡ b →
-      allow (b && ltb (length (v .edges)) 24) (withEdge (edge (find l (v .labels .names)) (find x (v .names)) (find y (v .names))) v) ≡ readEdge v fs
-  unfolding readEdge
-  edge-tested b e t = rw (e, t)
+-- ---- the four kinds of lines
 
-  -- ---- any line
+module _ {s : List ℕ} {line : Span} {f : Fields} (g : Fielded s line f) where
+  other-count : (n : ℕ) → n < 4 → eqb (f .count) n ≡ false → length (fields (textAt s line)) ≡ n → ⊥
+  other-count n h e = wrong-count g n h (λ z. true-not-false (eq-eqb (f .count) n z) e)
 
+  abbrev first : List ℕ
+  first = textAt s (f .first)
+
+  abbrev second : List ℕ
+  second = textAt s (f .second)
+
+  abbrev third : List ℕ
+  third = textAt s (f .third)
+
+  module _ (v : Reading) (b : Bool) where
+    pub class-tested : (eqb (f .count) 2 && fitsTable mostClasses first (v .classes .names) && isNumber second) ≡ b →
+        allow b (withClasses (withLine first (pair (valueOf second) (valueOf second)) (v .classes)) v) ≡ readClass v (fields (textAt s line))
+    unfolding readClass allow
+    class-tested t = decide (eqb (f .count) 2)
+        (λ e. let u = rw e at t in rw (g .two (eqb-true (f .count) 2 e) .shown, u))
+        (λ e. let u = rw e at t in rw (← u) (class-fields v (fields (textAt s line)) (other-count 2 (omega arith) e)))
+
+    pub label-tested : (eqb (f .count) 3 && fitsTable mostLabels first (v .labels .names) && isNumber second && isNumber third) ≡ b →
+        allow b (withLabels (withLine first (pair (valueOf second) (valueOf third)) (v .labels)) v) ≡ readLabel v (fields (textAt s line))
+    unfolding readLabel allow
+    label-tested t = decide (eqb (f .count) 3)
+        (λ e. let u = rw e at t in rw (g .three (eqb-true (f .count) 3 e) .shown, u))
+        (λ e. let u = rw e at t in rw (← u) (label-fields v (fields (textAt s line)) (other-count 3 (omega arith) e)))
+
+    pub node-tested : (eqb (f .count) 3 && isName first && not (known first (v .names)) && known second (v .classes .names) && isNumber third) ≡ b →
+        allow (b && ltb (length (v .drawing .nodes)) mostNodes) (withNode first (node (find second (v .classes .names)) (valueOf third)) v) ≡ readNode v (fields (textAt s line))
+    unfolding readNode allow
+    node-tested t = decide (eqb (f .count) 3)
+        (λ e. let u = rw e at t in rw (g .three (eqb-true (f .count) 3 e) .shown, u))
+        (λ e. let u = rw e at t in rw (← u) (node-fields v (fields (textAt s line)) (other-count 3 (omega arith) e)))
+
+    pub edge-tested : (eqb (f .count) 3 && known first (v .labels .names) && known second (v .names) && known third (v .names)) ≡ b →
+        allow (b && ltb (length (v .drawing .edges)) mostEdges) (withEdge (edge (find first (v .labels .names)) (find second (v .names)) (find third (v .names))) v) ≡ readEdge v (fields (textAt s line))
+    unfolding readEdge allow
+    edge-tested t = decide (eqb (f .count) 3)
+        (λ e. let u = rw e at t in rw (g .three (eqb-true (f .count) 3 e) .shown, u))
+        (λ e. let u = rw e at t in rw (← u) (edge-fields v (fields (textAt s line)) (other-count 3 (omega arith) e)))
+
+  -- ---- where the test is passed
+
+  pub class-passed : (names : List (List ℕ)) → (eqb (f .count) 2 && fitsTable mostClasses first names && isNumber second) ≡ true →
+      Two s line f × (fitsTable mostClasses first names ≡ true) × (isNumber second ≡ true)
+  class-passed names t = let p = simp both-true at t in (g .two (eqb-true (f .count) 2 (p .0 .0)), p .0 .1, p .1)
+
+  pub label-passed : (names : List (List ℕ)) → (eqb (f .count) 3 && fitsTable mostLabels first names && isNumber second && isNumber third) ≡ true →
+      Three s line f × (fitsTable mostLabels first names ≡ true) × (isNumber second ≡ true) × (isNumber third ≡ true)
+  label-passed names t = let p = simp both-true at t in (g .three (eqb-true (f .count) 3 (p .0 .0 .0)), p .0 .0 .1, p .0 .1, p .1)
+
+  pub node-passed : (nodes classes : List (List ℕ)) → (eqb (f .count) 3 && isName first && not (known first nodes) && known second classes && isNumber third) ≡ true → isNumber third ≡ true
+  node-passed nodes classes t = (simp both-true at t) .1
+
+-- ---- any line
+
+module _ (v : Reading) where
   pub values-of : (fs : List (List ℕ)) (k : ℕ) → v .section ≡ k → getD (readClass ∷ readLabel ∷ readNode ∷ readEdge ∷ []) k (λ x y. none) v fs ≡ readValues v fs
   unfolding readValues
   values-of fs k e = rw e
@@ -106,10 +129,11 @@ module _ (v : Reading) where
   unfolding readLine byStage
   header-first line o = rw o
 
-  pub line-of-values : (s : List ℕ) (a e : ℕ) → v .opened ≡ true → a < e → e ≤ length s → readValues v (fields (slice a e s)) ≡ readLine v (slice a e s)
-  unfolding readLine byStage readOpened
-  line-of-values s a e o h k = rw (o, slice-next s a e h k)
+  module _ (s : List ℕ) (line : Span) (o : v .opened ≡ true) where
+    pub line-of-values : line .start < line .end → line .end ≤ length s → readValues v (fields (textAt s line)) ≡ readLine v (textAt s line)
+    unfolding readLine byStage readOpened
+    line-of-values h k = rw (o, slice-next s (line .start) (line .end) h k)
 
-  pub line-of-end : (s : List ℕ) (a e : ℕ) → v .opened ≡ true → e ≤ a → endSection v ≡ readLine v (slice a e s)
-  unfolding readLine byStage readOpened
-  line-of-end s a e o h = rw (o, slice-none s a e h)
+    pub line-of-end : line .end ≤ line .start → endSection v ≡ readLine v (textAt s line)
+    unfolding readLine byStage readOpened
+    line-of-end h = rw (o, slice-none s (line .start) (line .end) h)

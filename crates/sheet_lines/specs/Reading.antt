@@ -8,11 +8,12 @@ use mathlib.Core.List.{List, [], _∷_, _++_}
 use mathlib.Core.Option.{Option, none, some}
 use lib.Dec.{leb, ltb}
 use lib.ListN.{length, getD}
+use Rattle.limits.specs.Limits.{mostClasses, mostLabels, mostNodes, mostEdges}
 use Rattle.tables.specs.Order.{pair}
 use Rattle.tables.specs.declared.Pair.{Pair}
 use Rattle.drawing.specs.declared.Node.{Node}
 use Rattle.drawing.specs.declared.Edge.{Edge}
-use Rattle.drawing.specs.Drawing.{node, edge}
+use Rattle.drawing.specs.Drawing.{Pattern, node, edge}
 use Rattle.sheet_text.specs.Text.{bytes, fields, isName, isNumber, valueOf, same, find, known}
 
 -- ---- what has been read
@@ -34,26 +35,29 @@ pub record Reading : Type 0 where
   pub classes : Named
   pub labels : Named
   pub names : List (List ℕ)
-  pub nodes : List Node
-  pub edges : List Edge
+  pub drawing : Pattern
 
 unfoldable pub nothing : Reading
-nothing = record { section = 0; opened = false; classes = record { names = []; lines = [] }; labels = record { names = []; lines = [] }; names = []; nodes = []; edges = [] }
+nothing = record { section = 0; opened = false; classes = record { names = []; lines = [] }; labels = record { names = []; lines = [] }; names = []; drawing = record { nodes = []; edges = [] } }
 
 unfoldable pub turnTo : ℕ → Bool → Reading → Reading
-turnTo s o r = record { section = s; opened = o; classes = r .classes; labels = r .labels; names = r .names; nodes = r .nodes; edges = r .edges }
+turnTo s o r = record { section = s; opened = o; classes = r .classes; labels = r .labels; names = r .names; drawing = r .drawing }
 
 unfoldable pub withClasses : Named → Reading → Reading
-withClasses t r = record { section = r .section; opened = r .opened; classes = t; labels = r .labels; names = r .names; nodes = r .nodes; edges = r .edges }
+withClasses t r = record { section = r .section; opened = r .opened; classes = t; labels = r .labels; names = r .names; drawing = r .drawing }
 
 unfoldable pub withLabels : Named → Reading → Reading
-withLabels t r = record { section = r .section; opened = r .opened; classes = r .classes; labels = t; names = r .names; nodes = r .nodes; edges = r .edges }
+withLabels t r = record { section = r .section; opened = r .opened; classes = r .classes; labels = t; names = r .names; drawing = r .drawing }
 
 unfoldable pub withNode : List ℕ → Node → Reading → Reading
-withNode n v r = record { section = r .section; opened = r .opened; classes = r .classes; labels = r .labels; names = r .names ++ (n ∷ []); nodes = r .nodes ++ (v ∷ []); edges = r .edges }
+withNode n v r =
+    let longer : Pattern = record { nodes = r .drawing .nodes ++ (v ∷ []); edges = r .drawing .edges } in
+    record { section = r .section; opened = r .opened; classes = r .classes; labels = r .labels; names = r .names ++ (n ∷ []); drawing = longer }
 
 unfoldable pub withEdge : Edge → Reading → Reading
-withEdge e r = record { section = r .section; opened = r .opened; classes = r .classes; labels = r .labels; names = r .names; nodes = r .nodes; edges = r .edges ++ (e ∷ []) }
+withEdge e r =
+    let longer : Pattern = record { nodes = r .drawing .nodes; edges = r .drawing .edges ++ (e ∷ []) } in
+    record { section = r .section; opened = r .opened; classes = r .classes; labels = r .labels; names = r .names; drawing = longer }
 
 -- ---- one line; none is a breach
 
@@ -76,7 +80,7 @@ fitsTable ceiling name names = isName name && leb (length (numbered name names))
 unfoldable pub readClass : Reading → List (List ℕ) → Option Reading
 readClass r [] = none
 readClass r (c ∷ []) = none
-readClass r (c ∷ o ∷ []) = allow (fitsTable 32 c (r .classes .names) && isNumber o) (withClasses (withLine c (pair (valueOf o) (valueOf o)) (r .classes)) r)
+readClass r (c ∷ o ∷ []) = allow (fitsTable mostClasses c (r .classes .names) && isNumber o) (withClasses (withLine c (pair (valueOf o) (valueOf o)) (r .classes)) r)
 readClass r (c ∷ o ∷ x ∷ xs) = none
 
 -- `label from to`
@@ -84,7 +88,7 @@ unfoldable pub readLabel : Reading → List (List ℕ) → Option Reading
 readLabel r [] = none
 readLabel r (l ∷ []) = none
 readLabel r (l ∷ u ∷ []) = none
-readLabel r (l ∷ u ∷ v ∷ []) = allow (fitsTable 64 l (r .labels .names) && isNumber u && isNumber v) (withLabels (withLine l (pair (valueOf u) (valueOf v)) (r .labels)) r)
+readLabel r (l ∷ u ∷ v ∷ []) = allow (fitsTable mostLabels l (r .labels .names) && isNumber u && isNumber v) (withLabels (withLine l (pair (valueOf u) (valueOf v)) (r .labels)) r)
 readLabel r (l ∷ u ∷ v ∷ x ∷ xs) = none
 
 -- `node class pick`: "an unknown or doubled node name, an unknown class ..., or a line past ... 12 nodes"
@@ -93,7 +97,7 @@ readNode r [] = none
 readNode r (n ∷ []) = none
 readNode r (n ∷ c ∷ []) = none
 readNode r (n ∷ c ∷ k ∷ []) =
-    allow (isName n && not (known n (r .names)) && known c (r .classes .names) && isNumber k && ltb (length (r .nodes)) 12)
+    allow (isName n && not (known n (r .names)) && known c (r .classes .names) && isNumber k && ltb (length (r .drawing .nodes)) mostNodes)
     (withNode n (node (find c (r .classes .names)) (valueOf k)) r)
 readNode r (n ∷ c ∷ k ∷ x ∷ xs) = none
 
@@ -103,7 +107,7 @@ readEdge r [] = none
 readEdge r (l ∷ []) = none
 readEdge r (l ∷ s ∷ []) = none
 readEdge r (l ∷ s ∷ t ∷ []) =
-    allow (known l (r .labels .names) && known s (r .names) && known t (r .names) && ltb (length (r .edges)) 24)
+    allow (known l (r .labels .names) && known s (r .names) && known t (r .names) && ltb (length (r .drawing .edges)) mostEdges)
     (withEdge (edge (find l (r .labels .names)) (find s (r .names)) (find t (r .names))) r)
 readEdge r (l ∷ s ∷ t ∷ x ∷ xs) = none
 

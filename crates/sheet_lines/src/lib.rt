@@ -1,8 +1,13 @@
 // The lines of a sheet: what one line adds to what has been read.
 
-use builder::Drawing;
-use builder::Line;
+use answers::accepts;
+use drawing::Drawing;
+use limits::CLASSES;
+use limits::LABELS;
+use limits::SHEET_BYTES;
+use sheet_text::Fields;
 use sheet_text::Names;
+use sheet_text::Span;
 use sheet_text::fields_of;
 use sheet_text::find_name;
 use sheet_text::is_name;
@@ -11,17 +16,22 @@ use sheet_text::same_text;
 use sheet_text::value_of;
 use sheet_text::with_name;
 ghost use mathlib.Core.Path.{_≡_};
-ghost use mathlib.Core.Bool.{true, not, _&&_};
+ghost use mathlib.Core.Bool.{not, _&&_};
 ghost use mathlib.Core.List.{[]};
 ghost use Prim.Native.Nat.{_+_, _*_, _≤_, _<_};
+ghost use lib.Dec.{eqb};
 ghost use lib.ListN.{length, getD};
-ghost use lib.Seq.{slice};
+ghost use Rattle.limits.specs.Limits.{mostClasses, mostLabels};
 ghost use Rattle.tables.specs.Order.{pair};
-ghost use Rattle.builder.specs.Builder.{withNode, withEdge};
+ghost use Rattle.drawing.specs.Drawing.{node, edge};
+ghost use Rattle.drawing.specs.Builder.{withNode, withEdge};
 ghost use Rattle.sheet_text.specs.Text.{fields, isName, isNumber, same, known};
-ghost use Rattle.sheet_text.specs.inner.Parts.{Inside, Two, Three, span, namesOf, Spans};
+ghost use Rattle.sheet_text.specs.inner.Parts.{textAt, Inside, Within, namesOf, Spans};
 ghost use Rattle.sheet_lines.specs.Reading.{fitsTable, readClass, readLabel, readNode, readEdge, readValues, headers, readHeader, readLine};
-ghost use Rattle.sheet_lines.specs.inner.State.{putLine, Ready, Numbered, Lined, lineWords, nodeStep, edgeStep, endStep, LineRead, ClassRead, LabelRead, OtherRead};
+ghost use Rattle.sheet_lines.specs.inner.State.{putLine, lineWords, Asked, Fitting, Searchable, Ready, Held, Numbered, Lined, nodeStep, edgeStep, endStep, LineRead, ClassRead, LabelRead, OtherRead};
+
+// The words that a slice must have which holds the lines of the classes, or of the labels: three a line, and a line has at least four bytes.
+pub const LINE_WORDS: usize = 3 * (SHEET_BYTES / 4);
 
 // The classes, or the labels: their names by number, and how many lines they have. The lines stand in a lent slice, three words each.
 pub struct Tables {
@@ -49,30 +59,30 @@ pub struct Step {
 // ---- names and lines
 
 // Whether a part of the sheet is one of the names.
-fn knows(s: &[u8], a: usize, e: usize, names: Names) -> bool
-    requires { ⌜ Inside (now s) a e ⌝ ∗ ⌜ Spans (now s) names 64 ⌝ }
-    ensures { λ r. ⌜ r ≡ known (slice a e (now (s .entry))) (namesOf (now (s .entry)) names) ⌝ }
+fn knows(s: &[u8], p: Span, names: Names) -> bool
+    requires { ⌜ Inside (now s) p ⌝ ∗ ⌜ Spans (now s) names mostLabels ⌝ }
+    ensures { λ r. ⌜ r ≡ known (textAt (now (s .entry)) p) (namesOf (now (s .entry)) names) ⌝ }
 {
-    find_name(s, a, e, names) < names.n
+    find_name(s, p, names) < names.n
 }
 
 // Whether a part is a name which is known, or for which there is room.
-fn fits(s: &[u8], a: usize, e: usize, names: Names, ceiling: usize) -> bool
-    requires { ⌜ Inside (now s) a e ⌝ ∗ ⌜ (Spans (now s) names ceiling) × (ceiling ≤ 64) ⌝ }
-    ensures { λ r. ⌜ r ≡ fitsTable ceiling (slice a e (now (s .entry))) (namesOf (now (s .entry)) names) ⌝ }
+fn fits(s: &[u8], p: Span, names: Names, ceiling: usize) -> bool
+    requires { ⌜ Asked (now s) p names ceiling ⌝ }
+    ensures { λ r. ⌜ r ≡ fitsTable ceiling (textAt (now (s .entry)) p) (namesOf (now (s .entry)) names) ⌝ }
 {
-    is_name(s, a, e) & ((names.n < ceiling) | knows(s, a, e, names))
+    is_name(s, p) & ((names.n < ceiling) | knows(s, p, names))
 }
 
 // The names, and this one where it is new.
-fn numbered(s: &[u8], a: usize, e: usize, names: Names, ceiling: usize) -> Names
-    requires { ⌜ Inside (now s) a e ⌝ ∗ ⌜ (Spans (now s) names ceiling) × (ceiling ≤ 64) × (fitsTable ceiling (slice a e (now s)) (namesOf (now s) names) ≡ true) ⌝ }
-    ensures { λ r. ⌜ Numbered (now (s .entry)) (slice a e (now (s .entry))) ceiling names r ⌝ }
+fn numbered(s: &[u8], p: Span, names: Names, ceiling: usize) -> Names
+    requires { ⌜ Fitting (now s) p names ceiling ⌝ }
+    ensures { λ r. ⌜ Numbered (now (s .entry)) (textAt (now (s .entry)) p) ceiling names r ⌝ }
 {
-    if knows(s, a, e, names) {
+    if knows(s, p, names) {
         return names;
     }
-    with_name(names, a, e)
+    with_name(names, p)
 }
 
 // Writes line i.
@@ -89,20 +99,19 @@ fn put_line(rows: &mut [u32], i: usize, table: u32, left: u32, right: u32)
 fn with_line(
     rows: &mut [u32],
     s: &[u8],
-    a: usize,
-    e: usize,
+    p: Span,
     t: Tables,
     ceiling: usize,
     left: u32,
     right: u32,
 ) -> Tables
-    requires { ⌜ Inside (now s) a e ⌝ ∗ ⌜ (Spans (now s) (t .names) ceiling) × (ceiling ≤ 64) × (fitsTable ceiling (slice a e (now s)) (namesOf (now s) (t .names)) ≡ true) ⌝ ∗ ⌜ 3 * t .lines + 2 < length (now rows) ⌝ }
-    ensures { λ r. ⌜ Lined (now (s .entry)) (slice a e (now (s .entry))) ceiling (pair left right) (now (rows .entry)) (now (rows .exit)) t r ⌝ }
+    requires { ⌜ Fitting (now s) p (t .names) ceiling ⌝ ∗ ⌜ 3 * t .lines + 2 < length (now rows) ⌝ }
+    ensures { λ r. ⌜ Lined (now (s .entry)) (textAt (now (s .entry)) p) ceiling (pair left right) (now (rows .entry)) (now (rows .exit)) t r ⌝ }
 {
     let old = t.names;
     let lines = t.lines;
-    let k = find_name(s, a, e, old);
-    let names = numbered(s, a, e, old, ceiling);
+    let k = find_name(s, p, old);
+    let names = numbered(s, p, old, ceiling);
     put_line(rows, lines, k as u32, left, right);
     Tables {
         names,
@@ -112,32 +121,25 @@ fn with_line(
 
 // ---- the four kinds of lines: a class and an object; a label and two objects; a node, its class, its pick; an edge and its two ends
 
-// Whether two fields, with their separator at m, make a class line.
-fn is_class(s: &[u8], a: usize, m: usize, e: usize, classes: Names) -> bool
-    requires { ⌜ Spans (now s) classes 32 ⌝ ∗ ⌜ Two (now s) a e m ⌝ ∗ ⌜ Inside (now s) a e ⌝ }
-    ensures { λ r. ⌜ r ≡ (fitsTable 32 (slice a m (now (s .entry))) (namesOf (now (s .entry)) classes) && isNumber (slice (m + 1) e (now (s .entry)))) ⌝ }
+// Whether fields make a class line.
+fn is_class(s: &[u8], f: Fields, classes: Names) -> bool
+    requires { ⌜ Within (now s) f ⌝ ∗ ⌜ Spans (now s) classes mostClasses ⌝ }
+    ensures { λ r. ⌜ r ≡ (eqb (f .count) 2 && fitsTable mostClasses (textAt (now (s .entry)) (f .first)) (namesOf (now (s .entry)) classes) && isNumber (textAt (now (s .entry)) (f .second))) ⌝ }
 {
-    fits(s, a, m, classes, 32) & is_number(s, m + 1, e)
+    (f.count == 2) & fits(s, f.first, classes, CLASSES) & is_number(s, f.second)
 }
 
 // A class line.
-fn class_line(rows: &mut [u32], s: &[u8], a: usize, e: usize, x: State) -> Step
-    requires { ⌜ Ready (now s) a e x ⌝ ∗ ⌜ lineWords ≤ length (now rows) ⌝ }
-    ensures { λ r. ⌜ ClassRead (now (s .entry)) (now (rows .entry)) (now (rows .exit)) e x r (λ v. readClass v (fields (slice a e (now (s .entry))))) ⌝ }
+fn class_line(rows: &mut [u32], s: &[u8], line: Span, x: State) -> Step
+    requires { ⌜ Ready (now s) line x ⌝ ∗ ⌜ lineWords ≤ length (now rows) ⌝ }
+    ensures { λ r. ⌜ ClassRead (now (s .entry)) (now (rows .entry)) (now (rows .exit)) line x r (λ v. readClass v (fields (textAt (now (s .entry)) line))) ⌝ }
 {
     let classes = x.classes;
-    let f = fields_of(s, a, e);
-    let m = f.first;
-    if f.count != 2 {
-        return Step {
-            read: false,
-            state: x,
-        };
-    }
-    if is_class(s, a, m, e, classes.names) {
-        let v = value_of(s, m + 1, e);
+    let f = fields_of(s, line);
+    if is_class(s, f, classes.names) {
+        let v = value_of(s, f.second);
         let mut y = x;
-        y.classes = with_line(rows, s, a, m, classes, 32, v, v);
+        y.classes = with_line(rows, s, f.first, classes, CLASSES, v, v);
         return Step {
             read: true,
             state: y,
@@ -149,34 +151,29 @@ fn class_line(rows: &mut [u32], s: &[u8], a: usize, e: usize, x: State) -> Step
     }
 }
 
-// Whether three fields, with their separators at m and k, make a label line.
-fn is_label(s: &[u8], a: usize, m: usize, k: usize, e: usize, labels: Names) -> bool
-    requires { ⌜ Spans (now s) labels 64 ⌝ ∗ ⌜ Three (now s) a e m k ⌝ ∗ ⌜ Inside (now s) a e ⌝ }
-    ensures { λ r. ⌜ r ≡ (fitsTable 64 (slice a m (now (s .entry))) (namesOf (now (s .entry)) labels) && isNumber (slice (m + 1) k (now (s .entry))) && isNumber (slice (k + 1) e (now (s .entry)))) ⌝ }
+// Whether fields make a label line.
+fn is_label(s: &[u8], f: Fields, labels: Names) -> bool
+    requires { ⌜ Within (now s) f ⌝ ∗ ⌜ Spans (now s) labels mostLabels ⌝ }
+    ensures { λ r. ⌜ r ≡ (eqb (f .count) 3 && fitsTable mostLabels (textAt (now (s .entry)) (f .first)) (namesOf (now (s .entry)) labels) && isNumber (textAt (now (s .entry)) (f .second)) && isNumber (textAt (now (s .entry)) (f .third))) ⌝ }
 {
-    fits(s, a, m, labels, 64) & is_number(s, m + 1, k) & is_number(s, k + 1, e)
+    (f.count == 3)
+        & fits(s, f.first, labels, LABELS)
+        & is_number(s, f.second)
+        & is_number(s, f.third)
 }
 
 // A label line.
-fn label_line(rows: &mut [u32], s: &[u8], a: usize, e: usize, x: State) -> Step
-    requires { ⌜ Ready (now s) a e x ⌝ ∗ ⌜ lineWords ≤ length (now rows) ⌝ }
-    ensures { λ r. ⌜ LabelRead (now (s .entry)) (now (rows .entry)) (now (rows .exit)) e x r (λ v. readLabel v (fields (slice a e (now (s .entry))))) ⌝ }
+fn label_line(rows: &mut [u32], s: &[u8], line: Span, x: State) -> Step
+    requires { ⌜ Ready (now s) line x ⌝ ∗ ⌜ lineWords ≤ length (now rows) ⌝ }
+    ensures { λ r. ⌜ LabelRead (now (s .entry)) (now (rows .entry)) (now (rows .exit)) line x r (λ v. readLabel v (fields (textAt (now (s .entry)) line))) ⌝ }
 {
     let labels = x.labels;
-    let f = fields_of(s, a, e);
-    let m = f.first;
-    let k = f.second;
-    if f.count != 3 {
-        return Step {
-            read: false,
-            state: x,
-        };
-    }
-    if is_label(s, a, m, k, e, labels.names) {
-        let u = value_of(s, m + 1, k);
-        let v = value_of(s, k + 1, e);
+    let f = fields_of(s, line);
+    if is_label(s, f, labels.names) {
+        let u = value_of(s, f.second);
+        let v = value_of(s, f.third);
         let mut y = x;
-        y.labels = with_line(rows, s, a, m, labels, 64, u, v);
+        y.labels = with_line(rows, s, f.first, labels, LABELS, u, v);
         return Step {
             read: true,
             state: y,
@@ -188,60 +185,37 @@ fn label_line(rows: &mut [u32], s: &[u8], a: usize, e: usize, x: State) -> Step
     }
 }
 
-// Whether three fields make a node line, but for the room in the drawing.
-fn is_node(s: &[u8], a: usize, m: usize, k: usize, e: usize, classes: Names, nodes: Names) -> bool
-    requires { ⌜ Spans (now s) classes 64 ⌝ ∗ ⌜ Spans (now s) nodes 64 ⌝ ∗ ⌜ Three (now s) a e m k ⌝ ∗ ⌜ Inside (now s) a e ⌝ }
-    ensures { λ r. ⌜ r ≡ (isName (slice a m (now (s .entry))) && not (known (slice a m (now (s .entry))) (namesOf (now (s .entry)) nodes)) && known (slice (m + 1) k (now (s .entry))) (namesOf (now (s .entry)) classes) && isNumber (slice (k + 1) e (now (s .entry)))) ⌝ }
+// Whether fields make a node line, but for the room in the drawing.
+fn is_node(s: &[u8], f: Fields, classes: Names, nodes: Names) -> bool
+    requires { ⌜ Searchable (now s) f classes nodes ⌝ }
+    ensures { λ r. ⌜ r ≡ (eqb (f .count) 3 && isName (textAt (now (s .entry)) (f .first)) && not (known (textAt (now (s .entry)) (f .first)) (namesOf (now (s .entry)) nodes))
+        && known (textAt (now (s .entry)) (f .second)) (namesOf (now (s .entry)) classes) && isNumber (textAt (now (s .entry)) (f .third))) ⌝ }
 {
-    is_name(s, a, m) & !knows(s, a, m, nodes) & knows(s, m + 1, k, classes) & is_number(s, k + 1, e)
+    (f.count == 3)
+        & is_name(s, f.first)
+        & !knows(s, f.first, nodes)
+        & knows(s, f.second, classes)
+        & is_number(s, f.third)
 }
 
 // The state with one node more, where the drawing has room for it.
-fn with_node(x: State, a: usize, m: usize, class: u32, pick: u32) -> Step
-    requires { ⌜ x .nodes .n < 64 ⌝ }
-    ensures { λ r. ⌜ r ≡ nodeStep x (span a m) (withNode (x .drawing) class pick) ⌝ }
+fn with_node(x: State, name: Span, class: u32, pick: u32) -> Step
+    requires { ⌜ x .nodes .n < mostLabels ⌝ }
+    ensures { λ r. ⌜ r ≡ nodeStep x name (withNode (x .drawing) (node class pick)) ⌝ }
 {
     let drawing = x.drawing;
     let nodes = x.nodes;
     let built = drawing.with_node(class, pick);
-    let line = built.line;
-    match line {
-        Line::Full => Step {
-            read: false,
-            state: x,
-        },
-        Line::Added => {
-            let mut y = x;
-            let more = built.drawing;
-            y.drawing = more;
-            y.nodes = with_name(nodes, a, m);
-            Step {
-                read: true,
-                state: y,
-            }
-        }
-    }
-}
-
-// A node line.
-fn node_line(s: &[u8], a: usize, e: usize, x: State) -> Step
-    requires { ⌜ Ready (now s) a e x ⌝ }
-    ensures { λ r. ⌜ OtherRead (now (s .entry)) e x r (λ v. readNode v (fields (slice a e (now (s .entry))))) ⌝ }
-{
-    let classes = x.classes;
-    let f = fields_of(s, a, e);
-    let m = f.first;
-    let k = f.second;
-    if f.count != 3 {
+    let answer = built.answer;
+    if accepts(answer) {
+        let more = built.drawing;
+        let mut y = x;
+        y.drawing = more;
+        y.nodes = with_name(nodes, name);
         return Step {
-            read: false,
-            state: x,
+            read: true,
+            state: y,
         };
-    }
-    if is_node(s, a, m, k, e, classes.names, x.nodes) {
-        let class = find_name(s, m + 1, k, classes.names) as u32;
-        let pick = value_of(s, k + 1, e);
-        return with_node(x, a, m, class, pick);
     }
     Step {
         read: false,
@@ -249,58 +223,70 @@ fn node_line(s: &[u8], a: usize, e: usize, x: State) -> Step
     }
 }
 
-// Whether three fields make an edge line, but for the room in the drawing.
-fn is_edge(s: &[u8], a: usize, m: usize, k: usize, e: usize, labels: Names, nodes: Names) -> bool
-    requires { ⌜ Spans (now s) labels 64 ⌝ ∗ ⌜ Spans (now s) nodes 64 ⌝ ∗ ⌜ Three (now s) a e m k ⌝ ∗ ⌜ Inside (now s) a e ⌝ }
-    ensures { λ r. ⌜ r ≡ (known (slice a m (now (s .entry))) (namesOf (now (s .entry)) labels) && known (slice (m + 1) k (now (s .entry))) (namesOf (now (s .entry)) nodes) && known (slice (k + 1) e (now (s .entry))) (namesOf (now (s .entry)) nodes)) ⌝ }
+// A node line.
+fn node_line(s: &[u8], line: Span, x: State) -> Step
+    requires { ⌜ Ready (now s) line x ⌝ }
+    ensures { λ r. ⌜ OtherRead (now (s .entry)) line x r (λ v. readNode v (fields (textAt (now (s .entry)) line))) ⌝ }
 {
-    knows(s, a, m, labels) & knows(s, m + 1, k, nodes) & knows(s, k + 1, e, nodes)
+    let classes = x.classes;
+    let f = fields_of(s, line);
+    if is_node(s, f, classes.names, x.nodes) {
+        let class = find_name(s, f.second, classes.names) as u32;
+        let pick = value_of(s, f.third);
+        return with_node(x, f.first, class, pick);
+    }
+    Step {
+        read: false,
+        state: x,
+    }
+}
+
+// Whether fields make an edge line, but for the room in the drawing.
+fn is_edge(s: &[u8], f: Fields, labels: Names, nodes: Names) -> bool
+    requires { ⌜ Searchable (now s) f labels nodes ⌝ }
+    ensures { λ r. ⌜ r ≡ (eqb (f .count) 3 && known (textAt (now (s .entry)) (f .first)) (namesOf (now (s .entry)) labels) && known (textAt (now (s .entry)) (f .second)) (namesOf (now (s .entry)) nodes)
+        && known (textAt (now (s .entry)) (f .third)) (namesOf (now (s .entry)) nodes)) ⌝ }
+{
+    (f.count == 3)
+        & knows(s, f.first, labels)
+        & knows(s, f.second, nodes)
+        & knows(s, f.third, nodes)
 }
 
 // The state with one edge more, where the drawing has room for it.
 fn with_edge(x: State, label: u32, source: u32, target: u32) -> Step
-    ensures { λ r. ⌜ r ≡ edgeStep x (withEdge (x .drawing) label source target) ⌝ }
+    ensures { λ r. ⌜ r ≡ edgeStep x (withEdge (x .drawing) (edge label source target)) ⌝ }
 {
     let drawing = x.drawing;
     let built = drawing.with_edge(label, source, target);
-    let line = built.line;
-    match line {
-        Line::Full => Step {
-            read: false,
-            state: x,
-        },
-        Line::Added => {
-            let mut y = x;
-            let more = built.drawing;
-            y.drawing = more;
-            Step {
-                read: true,
-                state: y,
-            }
-        }
+    let answer = built.answer;
+    if accepts(answer) {
+        let more = built.drawing;
+        let mut y = x;
+        y.drawing = more;
+        return Step {
+            read: true,
+            state: y,
+        };
+    }
+    Step {
+        read: false,
+        state: x,
     }
 }
 
 // An edge line.
-fn edge_line(s: &[u8], a: usize, e: usize, x: State) -> Step
-    requires { ⌜ Ready (now s) a e x ⌝ }
-    ensures { λ r. ⌜ OtherRead (now (s .entry)) e x r (λ v. readEdge v (fields (slice a e (now (s .entry))))) ⌝ }
+fn edge_line(s: &[u8], line: Span, x: State) -> Step
+    requires { ⌜ Ready (now s) line x ⌝ }
+    ensures { λ r. ⌜ OtherRead (now (s .entry)) line x r (λ v. readEdge v (fields (textAt (now (s .entry)) line))) ⌝ }
 {
     let labels = x.labels;
     let nodes = x.nodes;
-    let f = fields_of(s, a, e);
-    let m = f.first;
-    let k = f.second;
-    if f.count != 3 {
-        return Step {
-            read: false,
-            state: x,
-        };
-    }
-    if is_edge(s, a, m, k, e, labels.names, nodes) {
-        let label = find_name(s, a, m, labels.names) as u32;
-        let source = find_name(s, m + 1, k, nodes) as u32;
-        let target = find_name(s, k + 1, e, nodes) as u32;
+    let f = fields_of(s, line);
+    if is_edge(s, f, labels.names, nodes) {
+        let label = find_name(s, f.first, labels.names) as u32;
+        let source = find_name(s, f.second, nodes) as u32;
+        let target = find_name(s, f.third, nodes) as u32;
         return with_edge(x, label, source, target);
     }
     Step {
@@ -312,28 +298,28 @@ fn edge_line(s: &[u8], a: usize, e: usize, x: State) -> Step
 // ---- any line
 
 // Whether a line is the name line of a section.
-fn is_header(s: &[u8], a: usize, e: usize, section: usize) -> bool
-    requires { ⌜ Inside (now s) a e ⌝ ∗ ⌜ section ≤ 3 ⌝ }
-    ensures { λ r. ⌜ r ≡ same (slice a e (now (s .entry))) (getD headers section []) ⌝ }
+fn is_header(s: &[u8], line: Span, section: usize) -> bool
+    requires { ⌜ Inside (now s) line ⌝ ∗ ⌜ section ≤ 3 ⌝ }
+    ensures { λ r. ⌜ r ≡ same (textAt (now (s .entry)) line) (getD headers section []) ⌝ }
 {
     if section == 0 {
-        return same_text(s, a, e, b"class object", 0, 12);
+        return same_text(s, line, b"class object", Span { start: 0, end: 12 });
     }
     if section == 1 {
-        return same_text(s, a, e, b"label from to", 0, 13);
+        return same_text(s, line, b"label from to", Span { start: 0, end: 13 });
     }
     if section == 2 {
-        return same_text(s, a, e, b"node class pick", 0, 15);
+        return same_text(s, line, b"node class pick", Span { start: 0, end: 15 });
     }
-    same_text(s, a, e, b"edge source target", 0, 18)
+    same_text(s, line, b"edge source target", Span { start: 0, end: 18 })
 }
 
 // A line where a name line must stand.
-fn header_line(s: &[u8], a: usize, e: usize, x: State) -> Step
-    requires { ⌜ Ready (now s) a e x ⌝ }
-    ensures { λ r. ⌜ OtherRead (now (s .entry)) e x r (λ v. readHeader v (slice a e (now (s .entry)))) ⌝ }
+fn header_line(s: &[u8], line: Span, x: State) -> Step
+    requires { ⌜ Ready (now s) line x ⌝ }
+    ensures { λ r. ⌜ OtherRead (now (s .entry)) line x r (λ v. readHeader v (textAt (now (s .entry)) line)) ⌝ }
 {
-    if is_header(s, a, e, x.section) {
+    if is_header(s, line, x.section) {
         let mut y = x;
         y.opened = true;
         return Step {
@@ -369,47 +355,33 @@ fn end_section(x: State) -> Step
 }
 
 // A line of values, by its section.
-fn value_line(
-    classes: &mut [u32],
-    labels: &mut [u32],
-    s: &[u8],
-    a: usize,
-    e: usize,
-    x: State,
-) -> Step
-    requires { ⌜ Ready (now s) a e x ⌝ ∗ ⌜ lineWords ≤ length (now classes) ⌝ ∗ ⌜ lineWords ≤ length (now labels) ⌝ }
-    ensures { λ r. ⌜ LineRead (now (s .entry)) (now (classes .entry)) (now (classes .exit)) (now (labels .entry)) (now (labels .exit)) e x r (λ v. readValues v (fields (slice a e (now (s .entry))))) ⌝ }
+fn value_line(classes: &mut [u32], labels: &mut [u32], s: &[u8], line: Span, x: State) -> Step
+    requires { ⌜ Held (now s) (now classes) (now labels) line x ⌝ }
+    ensures { λ r. ⌜ LineRead (now (s .entry)) (now (classes .entry)) (now (classes .exit)) (now (labels .entry)) (now (labels .exit)) line x r (λ v. readValues v (fields (textAt (now (s .entry)) line))) ⌝ }
 {
     let section = x.section;
     if section == 0 {
-        return class_line(classes, s, a, e, x);
+        return class_line(classes, s, line, x);
     }
     if section == 1 {
-        return label_line(labels, s, a, e, x);
+        return label_line(labels, s, line, x);
     }
     if section == 2 {
-        return node_line(s, a, e, x);
+        return node_line(s, line, x);
     }
-    edge_line(s, a, e, x)
+    edge_line(s, line, x)
 }
 
 // Any line.
-pub fn read_line(
-    classes: &mut [u32],
-    labels: &mut [u32],
-    s: &[u8],
-    a: usize,
-    e: usize,
-    x: State,
-) -> Step
-    requires { ⌜ Ready (now s) a e x ⌝ ∗ ⌜ lineWords ≤ length (now classes) ⌝ ∗ ⌜ lineWords ≤ length (now labels) ⌝ }
-    ensures { λ r. ⌜ LineRead (now (s .entry)) (now (classes .entry)) (now (classes .exit)) (now (labels .entry)) (now (labels .exit)) e x r (λ v. readLine v (slice a e (now (s .entry)))) ⌝ }
+pub fn read_line(classes: &mut [u32], labels: &mut [u32], s: &[u8], line: Span, x: State) -> Step
+    requires { ⌜ Held (now s) (now classes) (now labels) line x ⌝ }
+    ensures { λ r. ⌜ LineRead (now (s .entry)) (now (classes .entry)) (now (classes .exit)) (now (labels .entry)) (now (labels .exit)) line x r (λ v. readLine v (textAt (now (s .entry)) line)) ⌝ }
 {
     if x.opened {
-        if a < e {
-            return value_line(classes, labels, s, a, e, x);
+        if line.start < line.end {
+            return value_line(classes, labels, s, line, x);
         }
         return end_section(x);
     }
-    header_line(s, a, e, x)
+    header_line(s, line, x)
 }

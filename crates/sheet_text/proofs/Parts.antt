@@ -12,9 +12,10 @@ use lib.Dec.{eqb}
 use lib.ListN.{length, getD}
 use lib.Seq.{slice, length-slice}
 use Rattle.tables.proofs.Parts.{slice-none, slice-next, slice-last}
+use Rattle.sheet_text.specs.declared.Span.{Span}
 use Rattle.sheet_text.specs.declared.Fields.{Fields}
 use Rattle.sheet_text.specs.Text.{split, addByte, fields, same}
-use Rattle.sheet_text.specs.inner.Parts.{Cut, Fielded}
+use Rattle.sheet_text.specs.inner.Parts.{span, textAt, Inside, Cut, Within, Fielded}
 
 -- ---- the search for a separator
 
@@ -78,48 +79,75 @@ some-fields : (s : List ℕ) (a e : ℕ) → 1 ≤ length (fields (slice a e s))
 unfolding fields
 some-fields s a e = omega arith
 
-module _ {s : List ℕ} {a e m : ℕ} (c : Cut s a e 32 m) where
-  pub one-field : m ≡ e → Fielded s a e (record { count = 1; first = e; second = e })
+module _ {s : List ℕ} {line : Span} (i : Inside s line) {m : ℕ} (c : Cut s (line .start) (line .end) 32 m) where
+  abbrev first : Span
+  first = span (line .start) m
+
+  abbrev missing : Span
+  missing = span (line .end) (line .end)
+
+  first-inside : Inside s first
+  first-inside = record { ordered = c .from; ends = omega (arith, c .upTo, i .ends) }
+
+  missing-inside : Inside s missing
+  missing-inside = record { ordered = omega arith; ends = i .ends }
+
+  pub one-field : m ≡ line .end → Fielded s line (record { count = 1; first = first; second = missing; third = missing })
   one-field z = record {
     counted = let f = ap length (fields-last c (omega arith)) in omega arith;
+    within = record { first = first-inside; second = missing-inside; third = missing-inside };
     two = λ n. absurd (omega arith);
     three = λ n. absurd (omega arith);
   }
 
-  module _ (h : m < e) {k : ℕ} (d : Cut s (m + 1) e 32 k) where
-    pub two-fields : k ≡ e → Fielded s a e (record { count = 2; first = m; second = e })
+  module _ (h : m < line .end) {k : ℕ} (d : Cut s (m + 1) (line .end) 32 k) where
+    abbrev second : Span
+    second = span (m + 1) k
+
+    second-inside : Inside s second
+    second-inside = record { ordered = d .from; ends = omega (arith, d .upTo, i .ends) }
+
+    pub two-fields : k ≡ line .end → Fielded s line (record { count = 2; first = first; second = second; third = missing })
     two-fields z =
-        let f : fields (slice a e s) ≡ slice a m s ∷ slice (m + 1) e s ∷ [] = fields-more c h ∙ rw (fields-last d (omega arith)) in
+        let f : fields (textAt s line) ≡ textAt s first ∷ textAt s second ∷ [] = fields-more c h ∙ rw (fields-last d (omega arith), z) in
         record {
           counted = let l = ap length f in omega arith;
-          two = λ n. record { from = c .from; before = h; shown = f };
+          within = record { first = first-inside; second = second-inside; third = missing-inside };
+          two = λ n. record { starts = omega arith; apart = omega arith; ends = d .upTo; shown = f };
           three = λ n. absurd (omega arith);
         }
 
-    module _ (g : k < e) {x : ℕ} (b : Cut s (k + 1) e 32 x) where
-      pub three-fields : x ≡ e → Fielded s a e (record { count = 3; first = m; second = k })
+    module _ (g : k < line .end) {x : ℕ} (b : Cut s (k + 1) (line .end) 32 x) where
+      abbrev third : Span
+      third = span (k + 1) x
+
+      three-inside : Within s (record { count = 3; first = first; second = second; third = third })
+      three-inside = record { first = first-inside; second = second-inside; third = record { ordered = b .from; ends = omega (arith, b .upTo, i .ends) } }
+
+      pub three-fields : x ≡ line .end → Fielded s line (record { count = 3; first = first; second = second; third = third })
       three-fields z =
-          let f : fields (slice a e s) ≡ slice a m s ∷ slice (m + 1) k s ∷ slice (k + 1) e s ∷ [] =
-          fields-more c h ∙ rw (fields-more d g, fields-last b (omega arith)) in
+          let f : fields (textAt s line) ≡ textAt s first ∷ textAt s second ∷ textAt s third ∷ [] = fields-more c h ∙ rw (fields-more d g, fields-last b (omega arith), z) in
           record {
             counted = let l = ap length f in omega arith;
+            within = three-inside;
             two = λ n. absurd (omega arith);
-            three = λ n. record { from = c .from; between = omega (arith, d .from); before = g; shown = f };
+            three = λ n. record { starts = omega arith; apart = omega arith; after = omega arith; ends = b .upTo; shown = f };
           }
 
-      pub more-fields : x < e → Fielded s a e (record { count = 4; first = m; second = k })
+      pub more-fields : x < line .end → Fielded s line (record { count = 4; first = first; second = second; third = third })
       more-fields z =
-          let f : fields (slice a e s) ≡ slice a m s ∷ slice (m + 1) k s ∷ slice (k + 1) x s ∷ fields (slice (x + 1) e s) =
+          let f : fields (textAt s line) ≡ textAt s first ∷ textAt s second ∷ textAt s third ∷ fields (slice (x + 1) (line .end) s) =
           fields-more c h ∙ rw (fields-more d g, fields-more b z) in
           record {
-            counted = let l = ap length f in let o = some-fields s (x + 1) e in omega arith;
+            counted = let l = ap length f in let o = some-fields s (x + 1) (line .end) in omega arith;
+            within = record { first = first-inside; second = second-inside; third = three-inside .third };
             two = λ n. absurd (omega arith);
             three = λ n. absurd (omega arith);
           }
 
 -- another count of fields than n
-pub wrong-count : {s : List ℕ} {a e : ℕ} {f : Fields} → Fielded s a e f → (n : ℕ) → n < 4 → (f .count ≡ n → ⊥) → length (fields (slice a e s)) ≡ n → ⊥
-wrong-count {s} {a} {e} {f} g n h d l = d (g .counted ∙ rw l (omega arith))
+pub wrong-count : {s : List ℕ} {line : Span} {f : Fields} → Fielded s line f → (n : ℕ) → n < 4 → (f .count ≡ n → ⊥) → length (fields (textAt s line)) ≡ n → ⊥
+wrong-count g n h d l = d (g .counted ∙ rw l (omega arith))
 
 -- ---- two parts, byte by byte
 

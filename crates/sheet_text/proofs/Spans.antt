@@ -11,14 +11,15 @@ use native.Mathlib.Numerals.{add-one}
 use native.Mathlib.Decide.{ℕ-discrete}
 use lib.ListN.{length, getD, take, set, length-map, length-set}
 use lib.Seq.{slice, slice-cons, slice-empty, take-suc-set, length-take-le, getD-set-same, getD-set-other}
+use Rattle.limits.specs.Limits.{mostLabels}
 use Rattle.sheet_text.specs.Text.{same, find}
-use Rattle.sheet_text.specs.inner.Parts.{span, nameAt, namesOf, noNames, withName, Inside, Spans}
+use Rattle.sheet_text.specs.inner.Parts.{span, textAt, namesOf, noNames, withName, Inside, Spans}
 use Rattle.sheet_text.specs.declared.Span.{Span}
 use Rattle.sheet_text.specs.declared.Names.{Names}
 
-pub length-names : {s : List ℕ} {x : Names} {most : ℕ} → Spans s x most → most ≤ 64 → length (namesOf s x) ≡ x .n
+pub length-names : {s : List ℕ} {x : Names} {most : ℕ} → Spans s x most → most ≤ mostLabels → length (namesOf s x) ≡ x .n
 unfolding namesOf
-length-names {s} {x} g m = length-map (take (x .n) (x .spans)) (nameAt s) ∙ length-take-le (x .n) (x .spans) (omega (arith, g .size, g .few))
+length-names {s} {x} g m = length-map (take (x .n) (x .spans)) (textAt s) ∙ length-take-le (x .n) (x .spans) (omega (arith, g .size, g .few))
 
 pub spans-wider : {s : List ℕ} {x : Names} {m n : ℕ} → Spans s x m → m ≤ n → Spans s x n
 spans-wider g h = record { size = g .size; few = omega (arith, g .few); inside = g .inside }
@@ -27,7 +28,7 @@ spans-wider g h = record { size = g .size; few = omega (arith, g .few); inside =
 
 -- the names from number i on
 pub namesFrom : List ℕ → Names → ℕ → List (List ℕ)
-namesFrom s x i = map (nameAt s) (slice i (x .n) (x .spans))
+namesFrom s x i = map (textAt s) (slice i (x .n) (x .spans))
 
 pub record Finding (s : List ℕ) (name : List ℕ) (x : Names) (i : ℕ) : Type 0 where
   pub upTo : i ≤ x .n
@@ -37,18 +38,18 @@ pub find-starts : (s name : List ℕ) (x : Names) → Finding s name x 0
 unfolding namesFrom namesOf
 find-starts s name x = record { upTo = omega arith; left = omega arith }
 
-module _ {s name : List ℕ} {x : Names} {i : ℕ} (c : Finding s name x i) (g : Spans s x 64) where
-  names-more : i < x .n → namesFrom s x i ≡ nameAt s (getD (x .spans) i (span 0 0)) ∷ namesFrom s x (i + 1)
+module _ {s name : List ℕ} {x : Names} {i : ℕ} (c : Finding s name x i) (g : Spans s x mostLabels) where
+  names-more : i < x .n → namesFrom s x i ≡ textAt s (getD (x .spans) i (span 0 0)) ∷ namesFrom s x (i + 1)
   unfolding namesFrom
   names-more h =
       let l : x .n ≤ length (x .spans) = omega (arith, g .size, g .few) in
-      rw add-one (ap (map (nameAt s)) (slice-cons i (x .n) (x .spans) (span 0 0) h l))
+      rw add-one (ap (map (textAt s)) (slice-cons i (x .n) (x .spans) (span 0 0) h l))
 
-  pub find-stops : i < x .n → same name (nameAt s (getD (x .spans) i (span 0 0))) ≡ true → i ≡ find name (namesOf s x)
+  pub find-stops : i < x .n → same name (textAt s (getD (x .spans) i (span 0 0))) ≡ true → i ≡ find name (namesOf s x)
   unfolding find
   find-stops h t = let l = rw (names-more h, t) at (c .left) in omega arith
 
-  pub find-goes-on : i < x .n → same name (nameAt s (getD (x .spans) i (span 0 0))) ≡ false → Finding s name x (i + 1)
+  pub find-goes-on : i < x .n → same name (textAt s (getD (x .spans) i (span 0 0))) ≡ false → Finding s name x (i + 1)
   unfolding find
   find-goes-on h t = let l = rw (names-more h, t) at (c .left) in record { upTo = omega arith; left = omega arith }
 
@@ -71,17 +72,17 @@ spans-none s most = record { size = refl; few = omega arith; inside = λ k h. ab
 
 -- ---- one name more
 
-module _ {s : List ℕ} {x : Names} {most : ℕ} (g : Spans s x most) (room : x .n < 64) (p : Span) where
-  pub names-longer : namesOf s (withName x p) ≡ namesOf s x ++ (nameAt s p ∷ [])
+module _ {s : List ℕ} {x : Names} {most : ℕ} (g : Spans s x most) (room : x .n < mostLabels) (p : Span) where
+  pub names-longer : namesOf s (withName x p) ≡ namesOf s x ++ (textAt s p ∷ [])
   unfolding namesOf withName
   names-longer =
       let l : x .n < length (x .spans) = omega (arith, g .size) in
-      rw (add-one, take-suc-set (x .spans) (x .n) p l) (map-append (nameAt s) (take (x .n) (x .spans)) (p ∷ []))
+      rw (add-one, take-suc-set (x .spans) (x .n) p l) (map-append (textAt s) (take (x .n) (x .spans)) (p ∷ []))
 
-  pub spans-longer : (n : ℕ) → x .n + 1 ≤ n → Inside s (p .start) (p .end) → Spans s (withName x p) n
+  pub spans-longer : (n : ℕ) → x .n + 1 ≤ n → Inside s p → Spans s (withName x p) n
   unfolding withName
   spans-longer n few h = record { size = length-set (x .spans) (x .n) p ∙ g .size; few = few; inside = λ k l. at k l (ℕ-discrete k (x .n)) }
     where
-      at : (k : ℕ) → k < x .n + 1 → Dec (k ≡ x .n) → Inside s (getD (set (x .spans) (x .n) p) k (span 0 0) .start) (getD (set (x .spans) (x .n) p) k (span 0 0) .end)
+      at : (k : ℕ) → k < x .n + 1 → Dec (k ≡ x .n) → Inside s (getD (set (x .spans) (x .n) p) k (span 0 0))
       at k l (yes e) = rw (e, getD-set-same (x .spans) (x .n) p (span 0 0) (omega (arith, g .size))) h
       at k l (no d) = rw (getD-set-other (x .spans) (x .n) k p (span 0 0) d) (g .inside k (omega arith))

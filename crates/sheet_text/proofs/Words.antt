@@ -12,11 +12,12 @@ use borrow.Author.Tests.{le-leb, lt-leb, ne-eqb}
 use lib.Dec.{eqb, leb, eqb·suc-zero, eqb·suc-suc}
 use lib.ListN.{length, getD}
 use lib.Seq.{slice, length-slice}
+use Rattle.limits.specs.Limits.{mostDigits, mostLetters}
 use Rattle.tables.specs.Lists.{all}
 use Rattle.tables.proofs.Tests.{both-true, leb-is}
 use Rattle.tables.proofs.Parts.{slice-none, slice-next}
 use Rattle.sheet_text.specs.Text.{within, isName, noLeadingZero, isNumber, valueFrom, valueOf}
-use Rattle.sheet_text.specs.inner.Parts.{Inside}
+use Rattle.sheet_text.specs.inner.Parts.{span, Inside}
 
 and-false : (b : Bool) → b && false ≡ false
 and-false true = refl
@@ -68,38 +69,38 @@ module _ {s : List ℕ} {a e low high i : ℕ} (c : Ranging s a e low high i) (k
 module _ (s : List ℕ) (a e : ℕ) (k : e ≤ length s) where
   pub no-name : e - a ≡ 0 → false ≡ isName (slice a e s)
   unfolding isName
-  no-name h = rw (length-slice a e s k, h, too-low 1 12 0 (omega arith))
+  no-name h = rw (length-slice a e s k, h, too-low 1 mostLetters 0 (omega arith))
 
-  pub long-name : 12 < e - a → false ≡ isName (slice a e s)
+  pub long-name : mostLetters < e - a → false ≡ isName (slice a e s)
   unfolding isName
-  long-name h = rw (length-slice a e s k, too-high 1 12 (e - a) h)
+  long-name h = rw (length-slice a e s k, too-high 1 mostLetters (e - a) h)
 
-  pub name-by-letters : 1 ≤ e - a → e - a ≤ 12 → all (within 97 122) (slice a e s) ≡ isName (slice a e s)
+  pub name-by-letters : 1 ≤ e - a → e - a ≤ mostLetters → all (within 97 122) (slice a e s) ≡ isName (slice a e s)
   unfolding isName
-  name-by-letters h l = rw (length-slice a e s k, is-within 1 12 (e - a) h l)
+  name-by-letters h l = rw (length-slice a e s k, is-within 1 mostLetters (e - a) h l)
 
 pub name-length : (xs : List ℕ) → isName xs ≡ true → 1 ≤ length xs
 unfolding isName
-name-length xs t = within-is 1 12 (length xs) (both-true _ _ .0 t .0) .0
+name-length xs t = within-is 1 mostLetters (length xs) (both-true _ _ .0 t .0) .0
 
 -- ---- a number
 
 pub record Number (xs : List ℕ) : Type 0 where
   pub some : 1 ≤ length xs
-  pub few : length xs ≤ 5
+  pub few : length xs ≤ mostDigits
   pub digits : all (within 48 57) xs ≡ true
 
 pub number : (xs : List ℕ) → isNumber xs ≡ true → Number xs
 unfolding isNumber
 number xs t =
     let r = both-true _ _ .0 (both-true _ _ .0 t .0) in
-    let w = within-is 1 5 (length xs) (r .0) in
+    let w = within-is 1 mostDigits (length xs) (r .0) in
     record { some = w .0; few = w .1; digits = r .1 }
 
 leading-zero : (bs : List ℕ) → isNumber (48 ∷ bs) ≡ eqb (length bs) 0
 unfolding isNumber within all noLeadingZero
 leading-zero [] = refl
-leading-zero (c ∷ bs) = and-false (within 1 5 (length (48 ∷ c ∷ bs)) && all (within 48 57) (48 ∷ c ∷ bs)) ∙ sym (eqb·suc-zero (length bs))
+leading-zero (c ∷ bs) = and-false (within 1 mostDigits (length (48 ∷ c ∷ bs)) && all (within 48 57) (48 ∷ c ∷ bs)) ∙ sym (eqb·suc-zero (length bs))
 
 no-leading-zero : (b : ℕ) (bs : List ℕ) → (b ≡ 48 → ⊥) → noLeadingZero (b ∷ bs) ≡ true
 unfolding noLeadingZero
@@ -109,23 +110,23 @@ no-leading-zero b (c ∷ bs) d = rw (ne-eqb b 48 d)
 module _ (s : List ℕ) (a e : ℕ) (k : e ≤ length s) where
   pub no-number : e - a ≡ 0 → false ≡ isNumber (slice a e s)
   unfolding isNumber
-  no-number h = rw (length-slice a e s k, h, too-low 1 5 0 (omega arith))
+  no-number h = rw (length-slice a e s k, h, too-low 1 mostDigits 0 (omega arith))
 
-  pub long-number : 5 < e - a → false ≡ isNumber (slice a e s)
+  pub long-number : mostDigits < e - a → false ≡ isNumber (slice a e s)
   unfolding isNumber
-  long-number h = rw (length-slice a e s k, too-high 1 5 (e - a) h)
+  long-number h = rw (length-slice a e s k, too-high 1 mostDigits (e - a) h)
 
   pub zero-number : a < e → getD s a 0 ≡ 48 → eqb (e - a) 1 ≡ isNumber (slice a e s)
   zero-number h z =
       let l : e - a ≡ suc (e - (a + 1)) = omega arith in
       rw (slice-next s a e h k, z, leading-zero (slice (a + 1) e s), length-slice (a + 1) e s k, l) (eqb·suc-suc (e - (a + 1)) 0)
 
-  pub number-by-digits : a < e → e - a ≤ 5 → (getD s a 0 ≡ 48 → ⊥) → all (within 48 57) (slice a e s) ≡ isNumber (slice a e s)
+  pub number-by-digits : a < e → e - a ≤ mostDigits → (getD s a 0 ≡ 48 → ⊥) → all (within 48 57) (slice a e s) ≡ isNumber (slice a e s)
   unfolding isNumber
   number-by-digits h l d =
       let z : noLeadingZero (slice a e s) ≡ true = rw (slice-next s a e h k) (no-leading-zero (getD s a 0) _ d) in
       let m : 1 ≤ e - a = omega arith in
-      rw (z, length-slice a e s k, is-within 1 5 (e - a) m l) (sym (and-true _))
+      rw (z, length-slice a e s k, is-within 1 mostDigits (e - a) m l) (sym (and-true _))
 
 -- ---- its value
 
@@ -133,12 +134,12 @@ module _ (s : List ℕ) (a e : ℕ) (k : e ≤ length s) where
 pub record Valuing (s : List ℕ) (a e n i : ℕ) : Type 0 where
   pub from : a ≤ i
   pub upTo : i ≤ e
-  pub few : e - a ≤ 5
+  pub few : e - a ≤ mostDigits
   pub small : n < 10 ^ (i - a)
   pub digits : all (within 48 57) (slice i e s) ≡ true
   pub left : valueFrom n (slice i e s) ≡ valueOf (slice a e s)
 
-pub value-starts : (s : List ℕ) (a e : ℕ) → Inside s a e → isNumber (slice a e s) ≡ true → Valuing s a e 0 a
+pub value-starts : (s : List ℕ) (a e : ℕ) → Inside s (span a e) → isNumber (slice a e s) ≡ true → Valuing s a e 0 a
 unfolding valueOf
 value-starts s a e g t =
     let n = number (slice a e s) t in
@@ -148,7 +149,7 @@ value-starts s a e g t =
 module _ {s : List ℕ} {a e n i : ℕ} (c : Valuing s a e n i) (k : e ≤ length s) where
   pub value-small : n < 100000
   value-small =
-      let m : 10 ^ (i - a) ≤ 10 ^ 5 = pow-le-pow-right {n = 10} (omega arith) {i = i - a} {j = 5} (omega (arith, c .few, c .upTo)) in
+      let m : 10 ^ (i - a) ≤ 10 ^ mostDigits = pow-le-pow-right {n = 10} (omega arith) {i = i - a} {j = mostDigits} (omega (arith, c .few, c .upTo)) in
       omega (arith, c .small)
 
   pub value-ends : e ≤ i → n ≡ valueOf (slice a e s)

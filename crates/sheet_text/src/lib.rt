@@ -1,5 +1,4 @@
-// Text in a byte slice: lines and fields, names and numbers. A part of the slice is named by the place where it starts and the place
-// after its end.
+// Text in a byte slice: lines and fields, names and numbers.
 
 use limits::DIGITS;
 use limits::LABELS;
@@ -7,13 +6,12 @@ use limits::LETTERS;
 ghost use mathlib.Core.Path.{_≡_};
 ghost use mathlib.Core.Bool.{true};
 ghost use Prim.Native.Nat.{_<_};
-ghost use lib.Seq.{slice};
 ghost use Rattle.limits.specs.Limits.{mostLabels};
 ghost use Rattle.tables.specs.Lists.{all};
 ghost use Rattle.sheet_text.specs.Text.{within, isName, isNumber, valueOf, same, find};
-ghost use Rattle.sheet_text.specs.inner.Parts.{Inside, Cut, Fielded, span, namesOf, noNames, withName, Spans};
+ghost use Rattle.sheet_text.specs.inner.Parts.{span, textAt, Inside, Cut, Fielded, namesOf, noNames, withName, Spans};
 
-// A part of a slice.
+// A part of a slice: the place where it starts, and the place after its end.
 pub struct Span {
     pub start: usize,
     pub end: usize,
@@ -25,16 +23,17 @@ pub struct Names {
     pub n: usize,
 }
 
-// How many fields a line has, 4 where it has more than 3, and the places of its first two separators.
+// How many fields a line has, 4 where it has more than 3, and the first three; one that is missing is empty.
 pub struct Fields {
     pub count: usize,
-    pub first: usize,
-    pub second: usize,
+    pub first: Span,
+    pub second: Span,
+    pub third: Span,
 }
 
 // The place of the next separator, or the end.
 pub fn cut(s: &[u8], a: usize, e: usize, sep: u8) -> usize
-    requires { ⌜ Inside (now s) a e ⌝ }
+    requires { ⌜ Inside (now s) (span a e) ⌝ }
     ensures { λ r. ⌜ Cut (now (s .entry)) a e sep r ⌝ }
 {
     let mut i = a;
@@ -48,48 +47,57 @@ pub fn cut(s: &[u8], a: usize, e: usize, sep: u8) -> usize
 }
 
 // The fields of a line.
-pub fn fields_of(s: &[u8], a: usize, e: usize) -> Fields
-    requires { ⌜ Inside (now s) a e ⌝ }
-    ensures { λ r. ⌜ Fielded (now (s .entry)) a e r ⌝ }
+pub fn fields_of(s: &[u8], line: Span) -> Fields
+    requires { ⌜ Inside (now s) line ⌝ }
+    ensures { λ r. ⌜ Fielded (now (s .entry)) line r ⌝ }
 {
+    let a = line.start;
+    let e = line.end;
+    let missing = Span { start: e, end: e };
     let m = cut(s, a, e, 32);
+    let first = Span { start: a, end: m };
     if m == e {
         return Fields {
             count: 1,
-            first: e,
-            second: e,
+            first,
+            second: missing,
+            third: missing,
         };
     }
     let k = cut(s, m + 1, e, 32);
+    let second = Span {
+        start: m + 1,
+        end: k,
+    };
     if k == e {
         return Fields {
             count: 2,
-            first: m,
-            second: e,
+            first,
+            second,
+            third: missing,
         };
     }
     let x = cut(s, k + 1, e, 32);
-    if x == e {
-        return Fields {
-            count: 3,
-            first: m,
-            second: k,
-        };
-    }
+    let third = Span {
+        start: k + 1,
+        end: x,
+    };
+    let count = if x == e { 3 } else { 4 };
     Fields {
-        count: 4,
-        first: m,
-        second: k,
+        count,
+        first,
+        second,
+        third,
     }
 }
 
 // Whether every byte of a part is one of these.
-fn all_within(s: &[u8], a: usize, e: usize, low: u8, high: u8) -> bool
-    requires { ⌜ Inside (now s) a e ⌝ }
-    ensures { λ r. ⌜ r ≡ all (within low high) (slice a e (now (s .entry))) ⌝ }
+fn all_within(s: &[u8], p: Span, low: u8, high: u8) -> bool
+    requires { ⌜ Inside (now s) p ⌝ }
+    ensures { λ r. ⌜ r ≡ all (within low high) (textAt (now (s .entry)) p) ⌝ }
 {
-    let mut i = a;
-    while i < e {
+    let mut i = p.start;
+    while i < p.end {
         if s[i] < low {
             return false;
         }
@@ -102,44 +110,47 @@ fn all_within(s: &[u8], a: usize, e: usize, low: u8, high: u8) -> bool
 }
 
 // Whether a part is a name: 1 to 12 lower-case letters.
-pub fn is_name(s: &[u8], a: usize, e: usize) -> bool
-    requires { ⌜ Inside (now s) a e ⌝ }
-    ensures { λ r. ⌜ r ≡ isName (slice a e (now (s .entry))) ⌝ }
+pub fn is_name(s: &[u8], p: Span) -> bool
+    requires { ⌜ Inside (now s) p ⌝ }
+    ensures { λ r. ⌜ r ≡ isName (textAt (now (s .entry)) p) ⌝ }
 {
-    if a == e {
+    let n = p.end - p.start;
+    if n == 0 {
         return false;
     }
-    if e - a > LETTERS {
+    if n > LETTERS {
         return false;
     }
-    all_within(s, a, e, 97, 122)
+    all_within(s, p, 97, 122)
 }
 
 // Whether a part is a number: 1 to 5 digits without a leading zero.
-pub fn is_number(s: &[u8], a: usize, e: usize) -> bool
-    requires { ⌜ Inside (now s) a e ⌝ }
-    ensures { λ r. ⌜ r ≡ isNumber (slice a e (now (s .entry))) ⌝ }
+pub fn is_number(s: &[u8], p: Span) -> bool
+    requires { ⌜ Inside (now s) p ⌝ }
+    ensures { λ r. ⌜ r ≡ isNumber (textAt (now (s .entry)) p) ⌝ }
 {
-    if a == e {
+    let a = p.start;
+    let n = p.end - a;
+    if n == 0 {
         return false;
     }
-    if e - a > DIGITS {
+    if n > DIGITS {
         return false;
     }
     if s[a] == 48 {
-        return e - a == 1;
+        return n == 1;
     }
-    all_within(s, a, e, 48, 57)
+    all_within(s, p, 48, 57)
 }
 
 // The value of a number.
-pub fn value_of(s: &[u8], a: usize, e: usize) -> u32
-    requires { ⌜ Inside (now s) a e ⌝ ∗ ⌜ isNumber (slice a e (now s)) ≡ true ⌝ }
-    ensures { λ r. ⌜ r ≡ valueOf (slice a e (now (s .entry))) ⌝ }
+pub fn value_of(s: &[u8], p: Span) -> u32
+    requires { ⌜ Inside (now s) p ⌝ ∗ ⌜ isNumber (textAt (now s) p) ≡ true ⌝ }
+    ensures { λ r. ⌜ r ≡ valueOf (textAt (now (s .entry)) p) ⌝ }
 {
     let mut n: u32 = 0;
-    let mut i = a;
-    while i < e {
+    let mut i = p.start;
+    while i < p.end {
         n = 10 * n + (s[i] - 48) as u32;
         i += 1;
     }
@@ -147,16 +158,16 @@ pub fn value_of(s: &[u8], a: usize, e: usize) -> u32
 }
 
 // Whether two parts are the same text.
-pub fn same_text(s: &[u8], a: usize, e: usize, t: &[u8], b: usize, f: usize) -> bool
-    requires { ⌜ Inside (now s) a e ⌝ ∗ ⌜ Inside (now t) b f ⌝ }
-    ensures { λ r. ⌜ r ≡ same (slice a e (now (s .entry))) (slice b f (now (t .entry))) ⌝ }
+pub fn same_text(s: &[u8], p: Span, t: &[u8], q: Span) -> bool
+    requires { ⌜ Inside (now s) p ⌝ ∗ ⌜ Inside (now t) q ⌝ }
+    ensures { λ r. ⌜ r ≡ same (textAt (now (s .entry)) p) (textAt (now (t .entry)) q) ⌝ }
 {
-    if e - a != f - b {
+    if p.end - p.start != q.end - q.start {
         return false;
     }
-    let mut i = a;
-    let mut j = b;
-    while i < e {
+    let mut i = p.start;
+    let mut j = q.start;
+    while i < p.end {
         if s[i] != t[j] {
             return false;
         }
@@ -167,15 +178,14 @@ pub fn same_text(s: &[u8], a: usize, e: usize, t: &[u8], b: usize, f: usize) -> 
 }
 
 // The number of a name; as many as there are where it is none of them.
-pub fn find_name(s: &[u8], a: usize, e: usize, names: Names) -> usize
-    requires { ⌜ Inside (now s) a e ⌝ ∗ ⌜ Spans (now s) names mostLabels ⌝ }
-    ensures { λ r. ⌜ r ≡ find (slice a e (now (s .entry))) (namesOf (now (s .entry)) names) ⌝ }
+pub fn find_name(s: &[u8], p: Span, names: Names) -> usize
+    requires { ⌜ Inside (now s) p ⌝ ∗ ⌜ Spans (now s) names mostLabels ⌝ }
+    ensures { λ r. ⌜ r ≡ find (textAt (now (s .entry)) p) (namesOf (now (s .entry)) names) ⌝ }
 {
     let n = names.n;
     let mut i = 0;
     while i < n {
-        let p = names.spans[i];
-        if same_text(s, a, e, s, p.start, p.end) {
+        if same_text(s, p, s, names.spans[i]) {
             return i;
         }
         i += 1;
@@ -193,13 +203,13 @@ pub fn no_names() -> Names
 }
 
 // The names, and one more, which is a part of the slice.
-pub fn with_name(names: Names, a: usize, e: usize) -> Names
+pub fn with_name(names: Names, p: Span) -> Names
     requires { ⌜ names .n < mostLabels ⌝ }
-    ensures { λ r. ⌜ r ≡ withName names (span a e) ⌝ }
+    ensures { λ r. ⌜ r ≡ withName names p ⌝ }
 {
     let n = names.n;
     let mut more = names;
-    more.spans[n] = Span { start: a, end: e };
+    more.spans[n] = p;
     more.n = n + 1;
     more
 }

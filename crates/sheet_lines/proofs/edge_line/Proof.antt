@@ -1,139 +1,99 @@
--- `sheet_lines::edge_line` meets its contract. Assumes nothing.
 use mathlib.Core.Path.{_∙_, sym}
 use mathlib.Core.Bool.{false}
-use Prim.Native.Nat.{_+_}
-use lib.Seq.{slice}
-use Rattle.sheet_text.proofs.Parts.{wrong-count}
+use Rattle.sheet_text.specs.inner.Parts.{textAt}
 use Rattle.sheet_text.proofs.Spans.{spans-wider}
 use Rattle.sheet_lines.specs.Reading.{allow}
 use Rattle.sheet_lines.specs.inner.State.{viewOf, tablesRead}
 use Rattle.sheet_lines.proofs.Naming.{find-small}
-use Rattle.sheet_lines.proofs.Tests.{edge-fields, edge-tested}
-use Rattle.sheet_lines.proofs.Steps.{other-refused, edge-read}
-use borrow.Author.Needs.{needs}
+use Rattle.sheet_lines.proofs.Tests.{edge-tested}
+use Rattle.sheet_lines.proofs.Steps.{state-roomy, edge-read, other-refused}
 use native.Mathlib.Omega.{arith}
+use borrow.Author.Needs.{needs}
 use Rattle.sheet_lines.proofs.edge_line.Statement.{statement}
 use Rattle.sheet_lines.proofs.edge_line.Tie as tie
+use Rattle.sheet_lines.proofs.edge_line.Reads as reads
+use Rattle.sheet_lines.proofs.edge_line.Lts as lts
+use Rattle.sheet_lines.proofs.is_edge.Reads as is-edge-reads
+use Rattle.sheet_lines.proofs.with_edge.Reads as with-edge-reads
+use Rattle.sheet_text.proofs.fields_of.Reads as fields-of-reads
+use Rattle.sheet_text.proofs.find_name.Reads as find-name-reads
 
-fields-of-requires : tie.Need-fields-of-requires
-fields-of-requires c κs =
-    let s = c .before .before .before in
-    s .pre .inside
-
-returns : tie.Need-returns
-returns c =
-    let at-fields-of = c .before .before in
-    let s = at-fields-of .before .before .before .before in
-    other-refused (s .pre) (λ ws vs. edge-fields _ _ (wrong-count (at-fields-of .fields-of .ensures) 3 (omega arith) (c .if1 .taken)))
-
+-- src/lib.rt:279:9
+-- src/lib.rt:280:8
 is-edge-requires : tie.Need-is-edge-requires
 is-edge-requires c κs =
-    let at-fields-of = c .before .before in
-    let s = at-fields-of .before .before .before .before in
-    (s .pre .fine .labels, (spans-wider (s .pre .fine .nodes) (omega arith), (at-fields-of .fields-of .ensures .three (c .if1 .left), s .pre .inside)))
+    let f = c .before .before .before .before .pre .fine in
+    record { within = c .fields-of .ensures .within; first = f .labels; second = spans-wider (f .nodes) (omega arith) }
 
-find-name-requires : tie.Need-find-name-requires
-find-name-requires c κs =
-    let at-if1 = c .before .before in
-    let at-fields-of = at-if1 .before .before in
-    let s = at-fields-of .before .before .before .before in
-    let w = at-fields-of .fields-of .ensures .three (at-if1 .if1 .left) in
-    (record { ordered = w .from; ends = omega (arith, w .between, w .before, s .pre .inside .ends) }, s .pre .fine .labels)
-
+-- src/lib.rt:281:21
+-- src/lib.rt:281:21
 cast-label : tie.Need-cast-label
 cast-label c =
-    let at-fields-of = c .before .before .before .before .before in
-    let s = at-fields-of .before .before .before .before in
-    let name = slice (s .args .a) (at-fields-of .fields-of .result .first) (s .args .s .now) in
-    let f = find-small (s .pre .fine .labels) (omega arith) name in
+    let g = c .before .before .before in
+    let s = g .before .before .before .before in
+    let f = find-small (s .pre .fine .labels) (omega arith) (textAt (s .args .s .now) (g .fields-of .result .first)) in
     omega (arith, c .find-name .ensures)
 
-add-find-name : tie.Need-add-find-name
-add-find-name c =
-    let at-if1 = c .before .before .before in
-    let at-fields-of = at-if1 .before .before in
-    let w = at-fields-of .fields-of .ensures .three (at-if1 .if1 .left) in omega (arith, w .between)
-
+-- src/lib.rt:282:22
 find-name-requires-2 : tie.Need-find-name-requires-2
 find-name-requires-2 c κs =
-    let at-if1 = c .before .before .before in
-    let at-fields-of = at-if1 .before .before in
-    let s = at-fields-of .before .before .before .before in
-    let w = at-fields-of .fields-of .ensures .three (at-if1 .if1 .left) in
-    (record { ordered = omega (arith, w .between); ends = omega (arith, w .before, s .pre .inside .ends) }, spans-wider (s .pre .fine .nodes) (omega arith))
+    let g = c .before .before .before in
+    (g .fields-of .ensures .within .second, spans-wider (g .before .before .before .before .pre .fine .nodes) (omega arith))
 
+-- src/lib.rt:282:22
 cast-source : tie.Need-cast-source
 cast-source c =
-    let at-fields-of = c .before .before .before .before .before .before in
-    let s = at-fields-of .before .before .before .before in
-    let name = slice (at-fields-of .fields-of .result .first + 1) (at-fields-of .fields-of .result .second) (s .args .s .now) in
-    let f = find-small (s .pre .fine .nodes) (omega arith) name in
+    let g = c .before .before .before .before in
+    let s = g .before .before .before .before in
+    let f = find-small (s .pre .fine .nodes) (omega arith) (textAt (s .args .s .now) (g .fields-of .result .second)) in
     omega (arith, c .find-name2 .ensures)
 
-add-find-name-2 : tie.Need-add-find-name-2
-add-find-name-2 c =
-    let at-if1 = c .before .before .before .before in
-    let at-fields-of = at-if1 .before .before in
-    let w = at-fields-of .fields-of .ensures .three (at-if1 .if1 .left) in omega (arith, w .before)
-
+-- src/lib.rt:283:22
 find-name-requires-3 : tie.Need-find-name-requires-3
 find-name-requires-3 c κs =
-    let at-if1 = c .before .before .before .before in
-    let at-fields-of = at-if1 .before .before in
-    let s = at-fields-of .before .before .before .before in
-    let w = at-fields-of .fields-of .ensures .three (at-if1 .if1 .left) in
-    (record { ordered = omega (arith, w .before); ends = s .pre .inside .ends }, spans-wider (s .pre .fine .nodes) (omega arith))
+    let g = c .before .before .before .before in
+    (g .fields-of .ensures .within .third, spans-wider (g .before .before .before .before .pre .fine .nodes) (omega arith))
 
+-- src/lib.rt:283:22
 cast-target : tie.Need-cast-target
 cast-target c =
-    let at-fields-of = c .before .before .before .before .before .before .before in
-    let s = at-fields-of .before .before .before .before in
-    let name = slice (at-fields-of .fields-of .result .second + 1) (s .args .e) (s .args .s .now) in
-    let f = find-small (s .pre .fine .nodes) (omega arith) name in
+    let g = c .before .before .before .before .before in
+    let s = g .before .before .before .before in
+    let f = find-small (s .pre .fine .nodes) (omega arith) (textAt (s .args .s .now) (g .fields-of .result .third)) in
     omega (arith, c .find-name3 .ensures)
 
-with-edge-requires : tie.Need-with-edge-requires
-with-edge-requires c κs = search needs
+-- src/lib.rt:284:9
+-- src/lib.rt:284:9
+returns : tie.Need-returns
+returns c =
+    let target = c .before in
+    let source = target .before in
+    let label = source .before in
+    let i = label .before in
+    let g = i .before .before in
+    let s = g .before .before .before .before in
+    let made = rw (label .find-name .ensures, source .find-name2 .ensures, target .find-name3 .ensures) at (c .with-edge .ensures) in
+    edge-read (s .pre) (state-roomy (s .args .x) (s .good .1 .1 .0)) (g .fields-of .ensures) (sym (i .before .is-edge .ensures) ∙ i .if1 .taken) made
 
+-- src/lib.rt:273:1
 returns-2 : tie.Need-returns-2
-returns-2 c =
-    let at-find-name3 = c .before in
-    let at-find-name2 = at-find-name3 .before in
-    let at-find-name = at-find-name2 .before in
-    let at-if2 = at-find-name .before in
-    let at-is-edge = at-if2 .before in
-    let at-if1 = at-is-edge .before in
-    let at-fields-of = at-if1 .before .before in
-    let s = at-fields-of .before .before .before .before in
-    let w = at-fields-of .fields-of .ensures .three (at-if1 .if1 .left) in
-    let made = rw (at-find-name .find-name .ensures, at-find-name2 .find-name2 .ensures, at-find-name3 .find-name3 .ensures) at (c .with-edge .ensures) in
-    edge-read (s .pre) w (sym (at-is-edge .is-edge .ensures) ∙ at-if2 .if2 .taken) made
-
-returns-3 : tie.Need-returns-3
 unfolding allow viewOf tablesRead
-returns-3 c =
-    let at-is-edge = c .before in
-    let at-if1 = at-is-edge .before in
-    let at-fields-of = at-if1 .before .before in
-    let s = at-fields-of .before .before .before .before in
-    let w = at-fields-of .fields-of .ensures .three (at-if1 .if1 .left) in
-    other-refused (s .pre) (λ ws vs. edge-tested _ false (w .shown) (sym (at-is-edge .is-edge .ensures) ∙ c .if2 .left))
+returns-2 c =
+    let g = c .before .before in
+    other-refused (g .before .before .before .before .pre) (λ ws vs. edge-tested (g .fields-of .ensures) _ false (sym (c .before .is-edge .ensures) ∙ c .if1 .left))
 
 pub edge-line-spec : {M : Type 1} → statement M
 edge-line-spec =
     tie.close
     (tie.spec
-    fields-of-requires
-    returns
+    (λ c κs. search needs)
     is-edge-requires
-    find-name-requires
+    (λ c κs. search needs)
     cast-label
-    add-find-name
     find-name-requires-2
     cast-source
-    add-find-name-2
     find-name-requires-3
     cast-target
-    with-edge-requires
-    returns-2
-    returns-3)
+    (λ c κs. search needs)
+    returns
+    returns-2)

@@ -1,23 +1,20 @@
--- `sheet_lines::header_line` meets its contract. Assumes nothing.
 use mathlib.Core.Path.{_∙_, sym}
 use Rattle.sheet_lines.proofs.Steps.{header-read, header-refused}
+use borrow.Author.Needs.{needs}
 use Rattle.sheet_lines.proofs.header_line.Statement.{statement}
 use Rattle.sheet_lines.proofs.header_line.Tie as tie
+use Rattle.sheet_lines.proofs.header_line.Reads as reads
+use Rattle.sheet_lines.proofs.header_line.Lts as lts
+use Rattle.sheet_lines.proofs.is_header.Reads as is-header-reads
 
-is-header-requires : tie.Need-is-header-requires
-is-header-requires c κs =
-    let s = c .before in
-    (s .pre .inside, s .pre .fine .section)
-
+-- src/lib.rt:316:8
+-- src/lib.rt:319:9
 returns : tie.Need-returns
-returns c =
-    let s = c .before .before .before in
-    header-read (s .pre) (sym (c .before .is-header .ensures) ∙ c .if1 .taken)
+returns c = header-read (c .before .before .before .pre) (sym (c .before .is-header .ensures) ∙ c .if1 .taken)
 
+-- src/lib.rt:312:1
 returns-2 : tie.Need-returns-2
-returns-2 c =
-    let s = c .before .before .before in
-    header-refused (s .pre) (sym (c .before .is-header .ensures) ∙ c .if1 .left)
+returns-2 c = header-refused (c .before .before .before .pre) (sym (c .before .is-header .ensures) ∙ c .if1 .left)
 
 pub header-line-spec : {M : Type 1} → statement M
-header-line-spec = tie.close (tie.spec is-header-requires returns returns-2)
+header-line-spec = tie.close (tie.spec (λ c κs. search needs) returns returns-2)

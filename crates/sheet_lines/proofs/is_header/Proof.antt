@@ -7,9 +7,6 @@ use native.Mathlib.Omega.{arith}
 use Rattle.sheet_lines.proofs.is_header.Statement.{statement}
 use Rattle.sheet_lines.proofs.is_header.Tie as tie
 
-slice-aggregate-same-text : tie.Need-slice-aggregate-same-text
-slice-aggregate-same-text c = search needs
-
 same-text-requires : tie.Need-same-text-requires
 same-text-requires c κs =
     let s = c .before .before .before in
@@ -18,9 +15,6 @@ same-text-requires c κs =
 returns : tie.Need-returns
 unfolding headers bytes
 returns c = rw (c .before .before .if1 .taken) (c .same-text .ensures)
-
-slice-aggregate-same-text-2 : tie.Need-slice-aggregate-same-text-2
-slice-aggregate-same-text-2 c = search needs
 
 same-text-requires-2 : tie.Need-same-text-requires-2
 same-text-requires-2 c κs =
@@ -31,9 +25,6 @@ returns-2 : tie.Need-returns-2
 unfolding headers bytes
 returns-2 c = rw (c .before .before .if2 .taken) (c .same-text2 .ensures)
 
-slice-aggregate-same-text-3 : tie.Need-slice-aggregate-same-text-3
-slice-aggregate-same-text-3 c = search needs
-
 same-text-requires-3 : tie.Need-same-text-requires-3
 same-text-requires-3 c κs =
     let s = c .before .before .before .before .before in
@@ -42,9 +33,6 @@ same-text-requires-3 c κs =
 returns-3 : tie.Need-returns-3
 unfolding headers bytes
 returns-3 c = rw (c .before .before .if3 .taken) (c .same-text3 .ensures)
-
-slice-aggregate-same-text-4 : tie.Need-slice-aggregate-same-text-4
-slice-aggregate-same-text-4 c = search needs
 
 same-text-requires-4 : tie.Need-same-text-requires-4
 same-text-requires-4 c κs =
@@ -61,15 +49,15 @@ pub is-header-spec : {M : Type 1} → statement M
 is-header-spec =
     tie.close
     (tie.spec
-    slice-aggregate-same-text
+    (λ c. search needs)
     same-text-requires
     returns
-    slice-aggregate-same-text-2
+    (λ c. search needs)
     same-text-requires-2
     returns-2
-    slice-aggregate-same-text-3
+    (λ c. search needs)
     same-text-requires-3
     returns-3
-    slice-aggregate-same-text-4
+    (λ c. search needs)
     same-text-requires-4
     returns-4)

@@ -1,125 +1,72 @@
--- `sheet_lines::label_line` meets its contract. Assumes nothing.
 use mathlib.Core.Path.{_∙_, sym}
-use mathlib.Core.Bool.{false}
-use Rattle.sheet_text.specs.inner.Parts.{namesOf}
-use Rattle.sheet_text.proofs.Parts.{wrong-count}
-use Rattle.sheet_lines.specs.Reading.{allow}
-use Rattle.sheet_lines.proofs.Tests.{label-passed, label-fields, label-tested}
-use Rattle.sheet_lines.proofs.Steps.{label-refused, label-read}
-use borrow.Author.Needs.{needs}
+use Rattle.sheet_lines.proofs.Tests.{label-passed}
+use Rattle.sheet_lines.proofs.Steps.{label-read, label-refused}
 use native.Mathlib.Omega.{arith}
+use borrow.Author.Needs.{needs}
 use Rattle.sheet_lines.proofs.label_line.Statement.{statement}
 use Rattle.sheet_lines.proofs.label_line.Tie as tie
+use Rattle.sheet_lines.proofs.label_line.Reads as reads
+use Rattle.sheet_lines.proofs.label_line.Lts as lts
+use Rattle.sheet_lines.proofs.is_label.Reads as is-label-reads
+use Rattle.sheet_lines.proofs.with_line.Reads as with-line-reads
+use Rattle.sheet_text.proofs.fields_of.Reads as fields-of-reads
+use Rattle.sheet_text.proofs.value_of.Reads as value-of-reads
 
-fields-of-requires : tie.Need-fields-of-requires
-fields-of-requires c κs =
-    let s = c .before .before .before in
-    s .pre .0 .inside
-
-returns : tie.Need-returns
-returns c =
-    let at-fields-of = c .before .before in
-    let s = at-fields-of .before .before .before .before in
-    label-refused (s .pre .0) (λ v q. label-fields v _ (wrong-count (at-fields-of .fields-of .ensures) 3 (omega arith) (c .if1 .taken)))
-
-is-label-requires : tie.Need-is-label-requires
-is-label-requires c κs =
-    let at-fields-of = c .before .before in
-    let s = at-fields-of .before .before .before .before in
-    (s .pre .0 .fine .labels, (at-fields-of .fields-of .ensures .three (c .if1 .left), s .pre .0 .inside))
-
-add-value-of : tie.Need-add-value-of
-add-value-of c =
-    let at-if1 = c .before .before in
-    let at-fields-of = at-if1 .before .before in
-    let w = at-fields-of .fields-of .ensures .three (at-if1 .if1 .left) in omega (arith, w .between)
-
+-- src/lib.rt:168:9
+-- src/lib.rt:169:8
+-- src/lib.rt:170:13
 value-of-requires : tie.Need-value-of-requires
 value-of-requires c κs =
-    let at-is-label = c .before in
-    let at-if1 = at-is-label .before in
-    let at-fields-of = at-if1 .before .before in
-    let s = at-fields-of .before .before .before .before in
-    let w = at-fields-of .fields-of .ensures .three (at-if1 .if1 .left) in
-    let passed = label-passed (s .args .s .now) (s .args .a) (at-fields-of .fields-of .result .first) (at-fields-of .fields-of .result .second) (s .args .e)
-    (namesOf (s .args .s .now) (s .args .x .labels .names)) (sym (at-is-label .is-label .ensures) ∙ c .if2 .taken) in
-    (record { ordered = omega (arith, w .between); ends = omega (arith, w .before, s .pre .0 .inside .ends) }, passed .1)
+    let w = c .before .before .fields-of .ensures in
+    (w .within .second, label-passed w _ (sym (c .before .is-label .ensures) ∙ c .if1 .taken) .2)
 
-add-value-of-2 : tie.Need-add-value-of-2
-add-value-of-2 c =
-    let at-if1 = c .before .before .before in
-    let at-fields-of = at-if1 .before .before in
-    let w = at-fields-of .fields-of .ensures .three (at-if1 .if1 .left) in omega (arith, w .before)
-
+-- src/lib.rt:171:13
 value-of-requires-2 : tie.Need-value-of-requires-2
 value-of-requires-2 c κs =
-    let at-if2 = c .before in
-    let at-is-label = at-if2 .before in
-    let at-if1 = at-is-label .before in
-    let at-fields-of = at-if1 .before .before in
-    let s = at-fields-of .before .before .before .before in
-    let w = at-fields-of .fields-of .ensures .three (at-if1 .if1 .left) in
-    let passed = label-passed (s .args .s .now) (s .args .a) (at-fields-of .fields-of .result .first) (at-fields-of .fields-of .result .second) (s .args .e)
-    (namesOf (s .args .s .now) (s .args .x .labels .names)) (sym (at-is-label .is-label .ensures) ∙ at-if2 .if2 .taken) in
-    (record { ordered = omega (arith, w .before); ends = s .pre .0 .inside .ends }, passed .2)
+    let i = c .before in
+    let w = i .before .before .fields-of .ensures in
+    (w .within .third, label-passed w _ (sym (i .before .is-label .ensures) ∙ i .if1 .taken) .3)
 
+-- src/lib.rt:173:9
 with-line-requires : tie.Need-with-line-requires
 with-line-requires c κs =
-    let at-if2 = c .before .before .before in
-    let at-is-label = at-if2 .before in
-    let at-if1 = at-is-label .before in
-    let at-fields-of = at-if1 .before .before in
-    let s = at-fields-of .before .before .before .before in
-    let w = at-fields-of .fields-of .ensures .three (at-if1 .if1 .left) in
-    let passed = label-passed (s .args .s .now) (s .args .a) (at-fields-of .fields-of .result .first) (at-fields-of .fields-of .result .second) (s .args .e)
-    (namesOf (s .args .s .now) (s .args .x .labels .names)) (sym (at-is-label .is-label .ensures) ∙ at-if2 .if2 .taken) in
+    let i = c .before .before .before in
+    let g = i .before .before in
+    let w = g .fields-of .ensures in
+    let s = g .before .before .before .before in
     let f = s .pre .0 .fine in
-    let i = s .pre .0 .inside in (
-      record { ordered = w .from; ends = omega (arith, w .between, w .before, i .ends) },
-      (
-        (f .labels, omega arith, passed .0),
-        omega (arith, f .lines, w .from, w .between, w .before, i .ends, s .pre .0 .short, s .pre .1),
-      ),
+    let p = label-passed w _ (sym (i .before .is-label .ensures) ∙ i .if1 .taken) in (
+      record { asked = record { inside = w .within .first; spans = f .labels; few = omega arith }; fits = p .1 },
+      omega (arith, f .lines, p .0 .starts, p .0 .apart, p .0 .after, p .0 .ends, w .within .first .ordered, w .within .second .ordered, w .within .third .ends, s .pre .0 .short, s .pre .1),
     )
 
-same-length : tie.Need-same-length
-same-length c = search needs
+-- src/lib.rt:174:9
+-- src/lib.rt:174:9
+returns : tie.Need-returns
+returns c =
+    let l = c .before .before in
+    let v = l .before .before in
+    let u = v .before in
+    let i = u .before in
+    let g = i .before .before in
+    label-read (g .before .before .before .before .pre .0) (g .fields-of .ensures) (sym (i .before .is-label .ensures) ∙ i .if1 .taken) (u .value-of .ensures) (v .value-of2 .ensures)
+    (l .with-line .ensures)
 
+-- src/lib.rt:163:1
 returns-2 : tie.Need-returns-2
 returns-2 c =
-    let at-with-line = c .before .before in
-    let at-value-of2 = at-with-line .before .before in
-    let at-value-of = at-value-of2 .before in
-    let at-if2 = at-value-of .before in
-    let at-is-label = at-if2 .before in
-    let at-if1 = at-is-label .before in
-    let at-fields-of = at-if1 .before .before in
-    let s = at-fields-of .before .before .before .before in
-    let w = at-fields-of .fields-of .ensures .three (at-if1 .if1 .left) in
-    label-read (s .pre .0) w (sym (at-is-label .is-label .ensures) ∙ at-if2 .if2 .taken) (at-value-of .value-of .ensures) (at-value-of2 .value-of2 .ensures) (at-with-line .with-line .ensures)
-
-returns-3 : tie.Need-returns-3
-unfolding allow
-returns-3 c =
-    let at-is-label = c .before in
-    let at-if1 = at-is-label .before in
-    let at-fields-of = at-if1 .before .before in
-    let s = at-fields-of .before .before .before .before in
-    let w = at-fields-of .fields-of .ensures .three (at-if1 .if1 .left) in
-    label-refused (s .pre .0) (λ v q. label-tested v false (w .shown) (rw q (sym (at-is-label .is-label .ensures) ∙ c .if2 .left)))
+    let g = c .before .before in
+    label-refused (g .before .before .before .before .pre .0) (g .fields-of .ensures) (sym (c .before .is-label .ensures) ∙ c .if1 .left)
 
 pub label-line-spec : {M : Type 1} → statement M
 label-line-spec =
     tie.close
     (tie.spec
-    fields-of-requires
-    returns
-    is-label-requires
-    add-value-of
+    (λ c κs. search needs)
+    (λ c κs. search needs)
     value-of-requires
-    add-value-of-2
     value-of-requires-2
     with-line-requires
-    same-length
-    returns-2
-    returns-3)
+    (λ c. search needs)
+    returns
+    returns-2)

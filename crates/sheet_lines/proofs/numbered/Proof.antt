@@ -1,32 +1,31 @@
--- `sheet_lines::numbered` meets its contract. Assumes nothing.
 use mathlib.Core.Path.{_∙_, sym}
-use Rattle.sheet_text.proofs.Spans.{spans-wider}
 use Rattle.sheet_lines.proofs.Naming.{stays-numbered, new-fits, new-numbered}
 use native.Mathlib.Omega.{arith}
+use borrow.Author.Needs.{needs}
 use Rattle.sheet_lines.proofs.numbered.Statement.{statement}
 use Rattle.sheet_lines.proofs.numbered.Tie as tie
+use Rattle.sheet_lines.proofs.numbered.Reads as reads
+use Rattle.sheet_lines.proofs.numbered.Lts as lts
+use Rattle.sheet_lines.proofs.knows.Reads as knows-reads
+use Rattle.sheet_text.proofs.with_name.Reads as with-name-reads
 
-knows-requires : tie.Need-knows-requires
-knows-requires c κs =
-    let s = c .before in
-    (s .pre .0, spans-wider (s .pre .1 .0) (s .pre .1 .1))
-
+-- src/lib.rt:82:8
+-- src/lib.rt:83:9
 returns : tie.Need-returns
-returns c =
-    let s = c .before .before .before in
-    stays-numbered (s .pre .1 .0) (s .pre .1 .1) (s .pre .0) (sym (c .before .knows .ensures) ∙ c .if1 .taken)
+returns c = stays-numbered (c .before .before .before .pre) (sym (c .before .knows .ensures) ∙ c .if1 .taken)
 
+-- src/lib.rt:85:5
 with-name-requires : tie.Need-with-name-requires
 with-name-requires c κs =
     let s = c .before .before .before in
-    let n = new-fits (s .pre .1 .0) (s .pre .1 .1) (s .pre .0) (s .pre .1 .2) (sym (c .before .knows .ensures) ∙ c .if1 .left) in omega (arith, s .pre .1 .1)
+    let n = new-fits (s .pre) (sym (c .before .knows .ensures) ∙ c .if1 .left) in
+    omega (arith, s .pre .asked .few)
 
+-- src/lib.rt:78:1
 returns-2 : tie.Need-returns-2
 returns-2 c =
-    let at-if1 = c .before in
-    let at-knows = at-if1 .before in
-    let s = at-knows .before .before in
-    rw (c .with-name .ensures) (new-numbered (s .pre .1 .0) (s .pre .1 .1) (s .pre .0) (s .pre .1 .2) (sym (at-knows .knows .ensures) ∙ at-if1 .if1 .left))
+    let i = c .before in
+    rw (c .with-name .ensures) (new-numbered (i .before .before .before .pre) (sym (i .before .knows .ensures) ∙ i .if1 .left))
 
 pub numbered-spec : {M : Type 1} → statement M
-numbered-spec = tie.close (tie.spec knows-requires returns with-name-requires returns-2)
+numbered-spec = tie.close (tie.spec (λ c κs. search needs) returns with-name-requires returns-2)

@@ -1,25 +1,26 @@
--- `sheet_lines::with_edge` meets its contract. Assumes nothing.
 use Rattle.sheet_lines.specs.inner.State.{stepBy, withDrawing, edgeStep}
+use Rattle.drawing.specs.Builder.{lineOf}
 use borrow.Author.Needs.{needs}
 use Rattle.sheet_lines.proofs.with_edge.Statement.{statement}
 use Rattle.sheet_lines.proofs.with_edge.Tie as tie
+use Rattle.sheet_lines.proofs.with_edge.Reads as reads
+use Rattle.sheet_lines.proofs.with_edge.Lts as lts
+use Rattle.answers.proofs.accepts.Reads as accepts-reads
+use Rattle.drawing.proofs.Drawing.with_edge.Reads as with-edge-reads
 
-with-edge-requires : tie.Need-with-edge-requires
-with-edge-requires c κs = search needs
-
-enum-told : tie.Need-enum-told
-enum-told c = search needs
-
-enum-told-2 : tie.Need-enum-told-2
-enum-told-2 c = search needs
-
+-- src/lib.rt:255:9
+-- src/lib.rt:257:8
+-- src/lib.rt:261:9
 returns : tie.Need-returns
-unfolding edgeStep stepBy
-returns c = rw (← c .before .before .with-edge .ensures, c .enum-told .given .1)
+unfolding edgeStep stepBy withDrawing lineOf
+returns c =
+    let i = c .before in
+    rw (← i .before .before .with-edge .ensures, ← i .before .accepts .ensures, i .if1 .taken)
 
+-- src/lib.rt:251:1
 returns-2 : tie.Need-returns-2
-unfolding edgeStep stepBy withDrawing
-returns-2 c = rw (← c .before .before .before .with-edge .ensures, c .before .enum-told2 .given .1)
+unfolding edgeStep stepBy lineOf
+returns-2 c = rw (← c .before .before .with-edge .ensures, ← c .before .accepts .ensures, c .if1 .left)
 
 pub with-edge-spec : {M : Type 1} → statement M
-with-edge-spec = tie.close (tie.spec with-edge-requires enum-told enum-told-2 returns returns-2)
+with-edge-spec = tie.close (tie.spec (λ c κs. search needs) (λ c κs. search needs) returns returns-2)

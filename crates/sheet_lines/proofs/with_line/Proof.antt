@@ -1,53 +1,45 @@
--- `sheet_lines::with_line` meets its contract: the name is numbered, and the line is written behind the others. Assumes nothing.
-use lib.Seq.{slice}
-use Rattle.sheet_text.proofs.Spans.{spans-wider}
+use Rattle.sheet_text.specs.inner.Parts.{textAt}
 use Rattle.sheet_lines.proofs.Naming.{find-small}
 use Rattle.sheet_lines.proofs.Entries.{lined}
+use native.Mathlib.Omega.{arith}
 use borrow.Author.Needs.{needs}
-use native.Mathlib.Omega.{arith}
-use native.Mathlib.Omega.{arith}
 use Rattle.sheet_lines.proofs.with_line.Statement.{statement}
 use Rattle.sheet_lines.proofs.with_line.Tie as tie
+use Rattle.sheet_lines.proofs.with_line.Reads as reads
+use Rattle.sheet_lines.proofs.with_line.Lts as lts
+use Rattle.sheet_lines.proofs.numbered.Reads as numbered-reads
+use Rattle.sheet_lines.proofs.put_line.Reads as put-line-reads
+use Rattle.sheet_text.proofs.find_name.Reads as find-name-reads
 
-find-name-requires : tie.Need-find-name-requires
-find-name-requires c κs =
-    let s = c .before .before .before in
-    (s .pre .0, spans-wider (s .pre .1 .0 .0) (s .pre .1 .0 .1))
-
-numbered-requires : tie.Need-numbered-requires
-numbered-requires c κs =
-    let s = c .before .before .before .before in
-    (s .pre .0, s .pre .1 .0)
-
+-- src/lib.rt:113:9
+-- src/lib.rt:114:9
+-- src/lib.rt:115:27
 cast-put-line : tie.Need-cast-put-line
 cast-put-line c =
-    let s = c .before .before .before .before .before .before in
-    let f = find-small (s .pre .1 .0 .0) (s .pre .1 .0 .1) (slice (s .args .a) (s .args .e) (s .args .s .now)) in omega (arith, c .before .before .find-name .ensures)
+    let found = c .before .before in
+    let s = found .before .before .before .before in
+    let f = find-small (s .pre .0 .asked .spans) (s .pre .0 .asked .few) (textAt (s .args .s .now) (s .args .p)) in
+    omega (arith, found .find-name .ensures)
 
-put-line-requires : tie.Need-put-line-requires
-put-line-requires c κs =
-    let s = c .before .before .before .before .before .before in
-    s .pre .1 .1
-
-add-t17 : tie.Need-add-t17
-add-t17 c = search needs
-
-same-length : tie.Need-same-length
-same-length c = search needs
-
+-- src/lib.rt:115:5
+-- src/lib.rt:118:16
+-- src/lib.rt:99:1
+-- src/lib.rt:99:1
 returns : tie.Need-returns
 returns c =
-    let s = c .before .before .before .before .before .before .before .before .before in
-    lined _ _ _ (c .before .before .before .before .numbered .ensures) (c .before .before .before .before .before .find-name .ensures) (s .pre .1 .1) (c .before .before .put-line .ensures)
+    let numbered = c .before .before .before .before in
+    let found = numbered .before in
+    let s = found .before .before .before .before in
+    lined _ _ _ (numbered .numbered .ensures) (found .find-name .ensures) (s .pre .1) (c .before .before .put-line .ensures)
 
 pub with-line-spec : {M : Type 1} → statement M
 with-line-spec =
     tie.close
     (tie.spec
-    find-name-requires
-    numbered-requires
+    (λ c κs. search needs)
+    (λ c κs. search needs)
     cast-put-line
-    put-line-requires
-    add-t17
-    same-length
+    (λ c κs. search needs)
+    (λ c. search needs)
+    (λ c. search needs)
     returns)

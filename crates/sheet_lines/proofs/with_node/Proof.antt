@@ -1,33 +1,30 @@
--- `sheet_lines::with_node` meets its contract. Assumes nothing.
 use Rattle.sheet_lines.specs.inner.State.{stepBy, withDrawing, nodeStep}
+use Rattle.drawing.specs.Builder.{lineOf}
 use borrow.Author.Needs.{needs}
 use Rattle.sheet_lines.proofs.with_node.Statement.{statement}
 use Rattle.sheet_lines.proofs.with_node.Tie as tie
+use Rattle.sheet_lines.proofs.with_node.Reads as reads
+use Rattle.sheet_lines.proofs.with_node.Lts as lts
+use Rattle.answers.proofs.accepts.Reads as accepts-reads
+use Rattle.drawing.proofs.Drawing.with_node.Reads as with-node-reads
+use Rattle.sheet_text.proofs.with_name.Reads as with-name-reads
 
-with-node-requires : tie.Need-with-node-requires
-with-node-requires c κs = search needs
-
-enum-told : tie.Need-enum-told
-enum-told c = search needs
-
-enum-told-2 : tie.Need-enum-told-2
-enum-told-2 c = search needs
-
-with-name-requires : tie.Need-with-name-requires
-with-name-requires c κs = search needs
-
+-- src/lib.rt:205:9
+-- src/lib.rt:207:8
+-- src/lib.rt:211:9
+-- src/lib.rt:212:9
 returns : tie.Need-returns
-unfolding nodeStep stepBy
-returns c = rw (← c .before .before .with-node .ensures, c .enum-told .given .1)
+unfolding nodeStep stepBy withDrawing lineOf
+returns c =
+    let i = c .before .before in
+    let n = i .before .before in
+    rw (← n .with-node .ensures, ← i .before .accepts .ensures, i .if1 .taken, c .with-name .ensures)
 
+-- src/lib.rt:199:1
 returns-2 : tie.Need-returns-2
-unfolding nodeStep stepBy withDrawing
-returns-2 c =
-    let at-enum-told2 = c .before .before in
-    let at-with-node = at-enum-told2 .before .before in
-    rw (← at-with-node .with-node .ensures, at-enum-told2 .enum-told2 .given .1, c .with-name .ensures)
+unfolding nodeStep stepBy lineOf
+returns-2 c = rw (← c .before .before .with-node .ensures, ← c .before .accepts .ensures, c .if1 .left)
 
 pub with-node-spec : {M : Type 1} → statement M
 with-node-spec =
-    tie.close
-    (tie.spec with-node-requires enum-told enum-told-2 with-name-requires returns returns-2)
+    tie.close (tie.spec (λ c κs. search needs) (λ c κs. search needs) (λ c κs. search needs) returns returns-2)

@@ -1,28 +1,29 @@
 -- State: what the reader holds of a sheet, and what it shows of it.
 --
--- In order: the lines of the classes or labels, in words; what a state shows; a state in bounds; what a step promises.
+-- In order: the lines of the classes or labels, in words; what a state shows; what the functions are given; steps that touch no lines; what a step
+-- promises.
 -- Assumes nothing.
-use Prim.Native.Nat.{ℕ, _+_, _*_, _≤_}
+use Prim.Native.Nat.{ℕ, _+_, _*_, _/_, _≤_}
 use mathlib.Core.Path.{_≡_}
-use mathlib.Core.Bool.{Bool, true, false, cond}
+use mathlib.Core.Bool.{Bool, true, false}
 use mathlib.Core.List.{List, [], _∷_}
 use mathlib.Core.Option.{Option}
 use lib.Dec.{ltb}
 use lib.ListN.{length, set, take}
+use Rattle.limits.specs.Limits.{mostClasses, mostLabels, mostNodes, mostBytes}
+use Rattle.answers.specs.Verdict.{isAccepted}
 use Rattle.tables.specs.Order.{pair}
 use Rattle.tables.specs.declared.Pair.{Pair}
-use Rattle.builder.specs.declared.Drawing.{Drawing}
-use Rattle.builder.specs.declared.Built.{Built}
-use Rattle.builder.specs.declared.Line.{Line}
-use Rattle.builder.specs.declared.Line.the-variants.{Added, Full}
-use Rattle.builder.specs.Builder.{view}
+use Rattle.drawing.specs.declared.Drawing.{Drawing}
+use Rattle.drawing.specs.Builder.{Line, view}
 use Rattle.sheet_text.specs.declared.Span.{Span}
 use Rattle.sheet_text.specs.declared.Names.{Names}
-use Rattle.sheet_text.specs.inner.Parts.{Inside, namesOf, withName, Spans}
+use Rattle.sheet_text.specs.declared.Fields.{Fields}
+use Rattle.sheet_text.specs.inner.Parts.{textAt, Inside, Within, namesOf, withName, Spans}
 use Rattle.sheet_lines.specs.declared.Tables.{Tables}
 use Rattle.sheet_lines.specs.declared.State.{State}
 use Rattle.sheet_lines.specs.declared.Step.{Step}
-use Rattle.sheet_lines.specs.Reading.{Entry, Named, Reading, numbered, withLine, allow}
+use Rattle.sheet_lines.specs.Reading.{Entry, Named, Reading, fitsTable, numbered, withLine, allow}
 
 -- ---- lines in words, three a line: the number of the table, left, right
 
@@ -55,57 +56,73 @@ viewOf s ws vs x = record {
   classes = tablesRead s ws (x .classes);
   labels = tablesRead s vs (x .labels);
   names = namesOf s (x .nodes);
-  nodes = view (x .drawing) .nodes;
-  edges = view (x .drawing) .edges;
+  drawing = view (x .drawing);
 }
 
--- ---- a state in bounds
+-- ---- what the functions are given
 
--- "Up to 16,384 bytes". A line of a class or label has at least four bytes, so that there are at most 4,096, of three words each.
-abbrev pub mostBytes : ℕ
-mostBytes = 16384
+-- a part of the sheet, and names of which it is one, or may become one
+pub record Asked (s : List ℕ) (p : Span) (names : Names) (ceiling : ℕ) : Type 0 where
+  pub inside : Inside s p
+  pub spans : Spans s names ceiling
+  pub few : ceiling ≤ mostLabels
 
+pub record Fitting (s : List ℕ) (p : Span) (names : Names) (ceiling : ℕ) : Type 0 where
+  pub asked : Asked s p names ceiling
+  pub fits : fitsTable ceiling (textAt s p) (namesOf s names) ≡ true
+
+-- fields, and the names among which they are looked up
+pub record Searchable (s : List ℕ) (f : Fields) (x y : Names) : Type 0 where
+  pub within : Within s f
+  pub first : Spans s x mostLabels
+  pub second : Spans s y mostLabels
+
+-- A line of a class or label has at least four bytes, and is held in three words.
 abbrev pub lineWords : ℕ
-lineWords = 12288
+lineWords = 3 * (mostBytes / 4)
 
 -- a state that was read from the bytes before place `at`
 pub record Fine (s : List ℕ) (at : ℕ) (x : State) : Type 0 where
   pub section : x .section ≤ 3
-  pub classes : Spans s (x .classes .names) 32
-  pub labels : Spans s (x .labels .names) 64
-  pub nodes : Spans s (x .nodes) 12
+  pub classes : Spans s (x .classes .names) mostClasses
+  pub labels : Spans s (x .labels .names) mostLabels
+  pub nodes : Spans s (x .nodes) mostNodes
   pub drawn : x .drawing .n ≡ x .nodes .n
-  pub nodeRoom : length (x .drawing .nodes) ≡ 12
-  pub edgeRoom : length (x .drawing .edges) ≡ 24
-  pub fewEdges : x .drawing .e ≤ 24
   pub lines : 4 * (x .classes .lines + x .labels .lines) ≤ at
 
 -- a line of the sheet, and a state that was read from the lines before it
-pub record Ready (s : List ℕ) (a e : ℕ) (x : State) : Type 0 where
-  pub inside : Inside s a e
+pub record Ready (s : List ℕ) (line : Span) (x : State) : Type 0 where
+  pub inside : Inside s line
   pub short : length s ≤ mostBytes
-  pub fine : Fine s a x
+  pub fine : Fine s (line .start) x
+
+-- the same, with two slices that hold the lines of the classes and of the labels
+pub record Held (s classes labels : List ℕ) (line : Span) (x : State) : Type 0 where
+  pub ready : Ready s line x
+  pub classRoom : lineWords ≤ length classes
+  pub labelRoom : lineWords ≤ length labels
 
 -- ---- steps that touch no lines
 
-unfoldable pub stepBy : Line → State → State → Step
-stepBy Added new old = record { read = true; state = new }
-stepBy Full new old = record { read = false; state = old }
+unfoldable pub stepBy : Bool → State → State → Step
+stepBy true new old = record { read = true; state = new }
+stepBy false new old = record { read = false; state = old }
 
 unfoldable pub withDrawing : Names → Drawing → State → State
 withDrawing n d x = record { section = x .section; opened = x .opened; classes = x .classes; labels = x .labels; nodes = n; drawing = d }
 
-unfoldable pub nodeStep : State → Span → Built → Step
-nodeStep x p b = stepBy (b .line) (withDrawing (withName (x .nodes) p) (b .drawing) x) x
+-- by the drawing with one node more, with one edge more
+unfoldable pub nodeStep : State → Span → Line → Step
+nodeStep x p l = stepBy (isAccepted (l .verdict)) (withDrawing (withName (x .nodes) p) (l .drawing) x) x
 
-unfoldable pub edgeStep : State → Built → Step
-edgeStep x b = stepBy (b .line) (withDrawing (x .nodes) (b .drawing) x) x
+unfoldable pub edgeStep : State → Line → Step
+edgeStep x l = stepBy (isAccepted (l .verdict)) (withDrawing (x .nodes) (l .drawing) x) x
 
 unfoldable pub turned : ℕ → Bool → State → State
 turned k o x = record { section = k; opened = o; classes = x .classes; labels = x .labels; nodes = x .nodes; drawing = x .drawing }
 
 unfoldable pub endStep : State → Step
-endStep x = let more = turned (x .section + 1) false x in cond (ltb (x .section) 3) (record { read = true; state = more }) (record { read = false; state = x })
+endStep x = stepBy (ltb (x .section) 3) (turned (x .section + 1) false x) x
 
 -- ---- what a step promises
 
@@ -122,22 +139,22 @@ pub record Lined (s name : List ℕ) (ceiling : ℕ) (p : Pair) (before after : 
   pub size : length after ≡ length before
 
 -- a line of the classes was read, which changes the first slice; of the labels, which changes the second; or another
-pub record ClassRead (s : List ℕ) (before after : List ℕ) (e : ℕ) (x : State) (r : Step) (reads : Reading → Option Reading) : Type 0 where
+pub record ClassRead (s : List ℕ) (before after : List ℕ) (line : Span) (x : State) (r : Step) (reads : Reading → Option Reading) : Type 0 where
   pub answer : (vs : List ℕ) → allow (r .read) (viewOf s after vs (r .state)) ≡ reads (viewOf s before vs x)
-  pub fine : Fine s (e + 1) (r .state)
+  pub fine : Fine s (line .end + 1) (r .state)
   pub size : length after ≡ length before
 
-pub record LabelRead (s : List ℕ) (before after : List ℕ) (e : ℕ) (x : State) (r : Step) (reads : Reading → Option Reading) : Type 0 where
+pub record LabelRead (s : List ℕ) (before after : List ℕ) (line : Span) (x : State) (r : Step) (reads : Reading → Option Reading) : Type 0 where
   pub answer : (ws : List ℕ) → allow (r .read) (viewOf s ws after (r .state)) ≡ reads (viewOf s ws before x)
-  pub fine : Fine s (e + 1) (r .state)
+  pub fine : Fine s (line .end + 1) (r .state)
   pub size : length after ≡ length before
 
-pub record OtherRead (s : List ℕ) (e : ℕ) (x : State) (r : Step) (reads : Reading → Option Reading) : Type 0 where
+pub record OtherRead (s : List ℕ) (line : Span) (x : State) (r : Step) (reads : Reading → Option Reading) : Type 0 where
   pub answer : (ws vs : List ℕ) → allow (r .read) (viewOf s ws vs (r .state)) ≡ reads (viewOf s ws vs x)
-  pub fine : Fine s (e + 1) (r .state)
+  pub fine : Fine s (line .end + 1) (r .state)
 
-pub record LineRead (s : List ℕ) (ws ws′ vs vs′ : List ℕ) (e : ℕ) (x : State) (r : Step) (reads : Reading → Option Reading) : Type 0 where
+pub record LineRead (s : List ℕ) (ws ws′ vs vs′ : List ℕ) (line : Span) (x : State) (r : Step) (reads : Reading → Option Reading) : Type 0 where
   pub answer : allow (r .read) (viewOf s ws′ vs′ (r .state)) ≡ reads (viewOf s ws vs x)
-  pub fine : Fine s (e + 1) (r .state)
+  pub fine : Fine s (line .end + 1) (r .state)
   pub classSize : length ws′ ≡ length ws
   pub labelSize : length vs′ ≡ length vs

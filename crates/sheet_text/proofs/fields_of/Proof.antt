@@ -6,7 +6,7 @@ use Rattle.sheet_text.proofs.fields_of.Statement.{statement}
 use Rattle.sheet_text.proofs.fields_of.Tie as tie
 
 returns : tie.Need-returns
-returns c = one-field (c .before .cut .ensures) (c .if1 .taken)
+returns c = one-field (c .before .before .before .pre) (c .before .cut .ensures) (c .if1 .taken)
 
 add-cut : tie.Need-add-cut
 add-cut c = omega (arith, c .before .cut .ensures .upTo)
@@ -17,10 +17,16 @@ cut-requires-2 c κs = omega (arith, c .before .cut .ensures .upTo)
 returns-2 : tie.Need-returns-2
 returns-2 c =
     let l = c .before .before in
-    two-fields (l .before .cut .ensures) (omega (arith, l .before .cut .ensures .upTo)) (c .before .cut2 .ensures) (c .if2 .taken)
+    two-fields (l .before .before .before .pre) (l .before .cut .ensures) (omega (arith, l .before .cut .ensures .upTo)) (c .before .cut2 .ensures) (c .if2 .taken)
 
 add-cut-2 : tie.Need-add-cut-2
-add-cut-2 c = omega (arith, c .before .cut2 .ensures .upTo)
+add-cut-2 c = omega (arith, c .before .before .cut .ensures .upTo)
+
+add-cut-3 : tie.Need-add-cut-3
+add-cut-3 c = omega (arith, c .before .cut2 .ensures .upTo)
+
+add-third : tie.Need-add-t14
+add-third c = omega (arith, c .before .before .cut2 .ensures .upTo)
 
 cut-requires-3 : tie.Need-cut-requires-3
 cut-requires-3 c κs = omega (arith, c .before .cut2 .ensures .upTo)
@@ -29,13 +35,13 @@ returns-3 : tie.Need-returns-3
 returns-3 c =
     let k = c .before .before in
     let l = k .before .before in
-    three-fields (l .before .cut .ensures) (omega (arith, l .before .cut .ensures .upTo)) (k .before .cut2 .ensures) (omega (arith, k .before .cut2 .ensures .upTo)) (c .before .cut3 .ensures) (c .if3 .taken)
+    three-fields (l .before .before .before .pre) (l .before .cut .ensures) (omega (arith, l .before .cut .ensures .upTo)) (k .before .cut2 .ensures) (omega (arith, k .before .cut2 .ensures .upTo)) (c .before .cut3 .ensures) (c .if3 .taken)
 
 returns-4 : tie.Need-returns-4
 returns-4 c =
     let k = c .before .before in
     let l = k .before .before in
-    more-fields (l .before .cut .ensures) (omega (arith, l .before .cut .ensures .upTo)) (k .before .cut2 .ensures) (omega (arith, k .before .cut2 .ensures .upTo)) (c .before .cut3 .ensures) (omega (arith, c .before .cut3 .ensures .upTo))
+    more-fields (l .before .before .before .pre) (l .before .cut .ensures) (omega (arith, l .before .cut .ensures .upTo)) (k .before .cut2 .ensures) (omega (arith, k .before .cut2 .ensures .upTo)) (c .before .cut3 .ensures) (omega (arith, c .before .cut3 .ensures .upTo))
 
 pub fields-of-spec : {M : Type 1} → statement M
 fields-of-spec =
@@ -45,8 +51,10 @@ fields-of-spec =
     returns
     add-cut
     cut-requires-2
-    returns-2
     add-cut-2
+    returns-2
+    add-cut-3
     cut-requires-3
+    add-third
     returns-3
     returns-4)

@@ -1,18 +1,17 @@
 -- `sheet_text::find_name` meets its contract. The loop's invariant: none of the names passed is the one. Assumes nothing.
 use Prim.Native.Nat.{_-_}
-use lib.Seq.{slice}
-use mathlib.Core.Path.{_≡_, refl, _∙_, sym}
-use Rattle.sheet_text.specs.inner.Parts.{nameAt}
+use mathlib.Core.Path.{_≡_, refl}
+use Rattle.sheet_text.specs.inner.Parts.{textAt}
 use Rattle.sheet_text.proofs.Spans.{Finding, find-starts, find-stops, find-goes-on, find-ends}
 use native.Mathlib.Omega.{arith}
 use Rattle.sheet_text.proofs.find_name.Statement.{statement}
 use Rattle.sheet_text.proofs.find_name.Tie as tie
 
 abbrev Inv-loop : tie.InvT-loop
-Inv-loop s a e names n i₀ i = (Finding s (slice a e s) names i) × (n ≡ names .n)
+Inv-loop s p names n i₀ i = (Finding s (textAt s p) names i) × (n ≡ names .n)
 
 abbrev μ-loop : tie.MeasureT-loop
-μ-loop s a e names n i₀ i = n - i
+μ-loop s p names n i₀ i = n - i
 
 loop-holds : tie.Need-loop-holds Inv-loop μ-loop
 loop-holds c = (find-starts _ _ _, refl)
@@ -24,16 +23,14 @@ same-text-requires c κs =
     (l .before .before .before .pre .0, i)
 
 returns : tie.Need-returns Inv-loop μ-loop
-unfolding nameAt
 returns c =
     let l = c .before .before .before in
-    find-stops (l .before .loop .inv .0) (l .before .before .before .pre .1) (omega (arith, l .before .loop .inv .1)) (sym (c .before .same-text .ensures) ∙ c .if1 .taken)
+    find-stops (l .before .loop .inv .0) (l .before .before .before .pre .1) (omega (arith, l .before .loop .inv .1)) (rw (c .before .same-text .ensures) at (c .if1 .taken))
 
 loop-again : tie.Need-loop-again Inv-loop μ-loop
-unfolding nameAt
 loop-again c =
     let l = c .before .before .before in
-    (find-goes-on (l .before .loop .inv .0) (l .before .before .before .pre .1) (omega (arith, l .before .loop .inv .1)) (sym (c .before .same-text .ensures) ∙ c .if1 .left), l .before .loop .inv .1)
+    (find-goes-on (l .before .loop .inv .0) (l .before .before .before .pre .1) (omega (arith, l .before .loop .inv .1)) (rw (c .before .same-text .ensures) at (c .if1 .left)), l .before .loop .inv .1)
 
 returns-2 : tie.Need-returns-2 Inv-loop μ-loop
 returns-2 c = find-ends (c .before .loop .inv .0) (c .before .before .before .pre .1) (omega (arith, c .before .loop .inv .1))

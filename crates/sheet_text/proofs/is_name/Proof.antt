@@ -7,13 +7,13 @@ use Rattle.sheet_text.proofs.is_name.Statement.{statement}
 use Rattle.sheet_text.proofs.is_name.Tie as tie
 
 returns : tie.Need-returns
-returns c = no-name _ (c .before .before .args .a) _ (c .before .before .pre .ends) (omega arith)
+returns c = let s = c .before .before .before in no-name _ (s .args .p .start) _ (s .pre .ends) (c .if1 .taken)
 
 returns-2 : tie.Need-returns-2
-returns-2 c = long-name _ _ _ (c .before .before .before .pre .ends) (c .if2 .taken)
+returns-2 c = long-name _ _ _ (c .before .before .before .before .pre .ends) (c .if2 .taken)
 
 returns-3 : tie.Need-returns-3
-returns-3 c = c .all-within .ensures ∙ name-by-letters _ _ _ (c .before .before .before .before .pre .ends) (omega arith) (c .before .if2 .left)
+returns-3 c = let i = c .before in c .all-within .ensures ∙ name-by-letters _ _ _ (i .before .before .before .before .pre .ends) (omega arith) (i .if2 .left)
 
 pub is-name-spec : {M : Type 1} → statement M
-is-name-spec = tie.close (tie.spec returns (λ c. search needs) returns-2 (λ c κs. search needs) returns-3)
+is-name-spec = tie.close (tie.spec (λ c. search needs) returns returns-2 (λ c κs. search needs) returns-3)

@@ -12,12 +12,6 @@ use native.Mathlib.Omega.{arith}
 use Rattle.drawing.proofs.Drawing.write.Statement.{statement}
 use Rattle.drawing.proofs.Drawing.write.Tie as tie
 
-node-count-requires : tie.Need-node-count-requires
-node-count-requires c κs = search needs
-
-edge-count-requires : tie.Need-edge-count-requires
-edge-count-requires c κs = search needs
-
 mul-count : tie.Need-mul-count
 mul-count c = let s = c .before .before .before in let f = few (s .args .self) (roomy _ (s .good .0)) in omega (arith, f .nodes)
 
@@ -43,9 +37,6 @@ write-all-requires c κs =
     let l = words-length (view (s .args .self)) in
     omega (arith, c .before .if1 .left, count .edge-count .ensures, count .before .node-count .ensures)
 
-same-length : tie.Need-same-length
-same-length c = search needs
-
 returns-2 : tie.Need-returns-2
 returns-2 c =
     let all = c .before .before in
@@ -61,13 +52,13 @@ pub write-spec : {M : Type 1} → statement M
 write-spec =
     tie.close
     (tie.spec
-    node-count-requires
-    edge-count-requires
+    (λ c κs. search needs)
+    (λ c κs. search needs)
     mul-count
     add-count
     mul-count-2
     add-count-2
     returns
     write-all-requires
-    same-length
+    (λ c. search needs)
     returns-2)

@@ -17,18 +17,12 @@ use native.Mathlib.Omega.{arith}
 use Rattle.drawing.proofs.check.check_built.Statement.{statement}
 use Rattle.drawing.proofs.check.check_built.Tie as tie
 
-check-feed-requires : tie.Need-check-feed-requires
-check-feed-requires c κs = search needs
-
 enum-told : tie.Need-enum-told
 enum-told c = search needs
 
 returns : tie.Need-returns
 unfolding checkDrawing
 returns c = rw (← c .before .check-feed .ensures) (stands _ _ (c .match .keys2))
-
-node-count-requires : tie.Need-node-count-requires
-node-count-requires c κs = search needs
 
 returns-2 : tie.Need-returns-2
 unfolding checkDrawing verdictOf unless _then_
@@ -61,10 +55,10 @@ pub check-built-spec : {M : Type 1} → statement M
 check-built-spec =
     tie.close
     (tie.spec
-    check-feed-requires
+    (λ c κs. search needs)
     enum-told
     returns
-    node-count-requires
+    (λ c κs. search needs)
     returns-2
     check-pattern-requires
     returns-3)

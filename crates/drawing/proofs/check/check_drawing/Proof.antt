@@ -8,9 +8,6 @@ use borrow.Author.Needs.{needs}
 use Rattle.drawing.proofs.check.check_drawing.Statement.{statement}
 use Rattle.drawing.proofs.check.check_drawing.Tie as tie
 
-check-feed-requires : tie.Need-check-feed-requires
-check-feed-requires c κs = search needs
-
 enum-told : tie.Need-enum-told
 enum-told c = search needs
 
@@ -30,4 +27,4 @@ returns-2 c =
 
 pub check-drawing-spec : {M : Type 1} → statement M
 check-drawing-spec =
-    tie.close (tie.spec check-feed-requires enum-told returns check-words-requires returns-2)
+    tie.close (tie.spec (λ c κs. search needs) enum-told returns check-words-requires returns-2)

@@ -23,12 +23,6 @@ Inv-loop labels d n e i₀ i =
 abbrev μ-loop : tie.MeasureT-loop
 μ-loop labels d n e i₀ i = e - i
 
-node-count-requires : tie.Need-node-count-requires Inv-loop μ-loop
-node-count-requires c κs = search needs
-
-edge-count-requires : tie.Need-edge-count-requires Inv-loop μ-loop
-edge-count-requires c κs = search needs
-
 loop-holds : tie.Need-loop-holds Inv-loop μ-loop
 unfolding view
 loop-holds c =
@@ -36,35 +30,8 @@ loop-holds c =
     let f = few (s .args .t1) (roomy _ (s .good .0)) in
     (omega arith, c .edge-count .ensures, omega (arith, f .edges), omega (arith, f .nodes, c .before .node-count .ensures), check-all _ _ _ _)
 
-mul-x : tie.Need-mul-x Inv-loop μ-loop
-mul-x c = omega arith
-
-element-copy-out-x : tie.Need-element-copy-out-x Inv-loop μ-loop
-element-copy-out-x c = omega arith
-
-mul-check-edge : tie.Need-mul-check-edge Inv-loop μ-loop
-mul-check-edge c = omega arith
-
-add-check-edge : tie.Need-add-check-edge Inv-loop μ-loop
-add-check-edge c = omega arith
-
-mul-check-edge-2 : tie.Need-mul-check-edge-2 Inv-loop μ-loop
-mul-check-edge-2 c = omega arith
-
-add-check-edge-2 : tie.Need-add-check-edge-2 Inv-loop μ-loop
-add-check-edge-2 c = omega arith
-
-check-edge-requires : tie.Need-check-edge-requires Inv-loop μ-loop
-check-edge-requires c κs = omega arith
-
-add-i : tie.Need-add-i Inv-loop μ-loop
-add-i c = omega arith
-
 enum-told : tie.Need-enum-told Inv-loop μ-loop
 enum-told c = search needs
-
-loop-less : tie.Need-loop-less Inv-loop μ-loop
-loop-less c = omega arith
 
 -- the answer for edge i, then the check from the next edge on, is the check of all
 turn : (c : tie.After-check-edge Inv-loop μ-loop) →
@@ -105,19 +72,19 @@ check-edges-spec =
     (tie.spec
     Inv-loop
     μ-loop
-    node-count-requires
-    edge-count-requires
+    (λ c κs. search needs)
+    (λ c κs. search needs)
     loop-holds
-    mul-x
-    element-copy-out-x
-    mul-check-edge
-    add-check-edge
-    mul-check-edge-2
-    add-check-edge-2
-    check-edge-requires
-    add-i
+    (λ c. omega arith)
+    (λ c. omega arith)
+    (λ c. omega arith)
+    (λ c. omega arith)
+    (λ c. omega arith)
+    (λ c. omega arith)
+    (λ c κs. omega arith)
+    (λ c. omega arith)
     enum-told
-    loop-less
+    (λ c. omega arith)
     loop-again
     returns
     returns-2)

@@ -7,18 +7,9 @@ use borrow.Author.Needs.{needs}
 use Rattle.drawing.proofs.check.check_node.Statement.{statement}
 use Rattle.drawing.proofs.check.check_node.Tie as tie
 
-cast-t5 : tie.Need-cast-t5
-cast-t5 c = search needs
-
 returns : tie.Need-returns
 unfolding verdictOf checkNode unless _then_
 returns c = simp (le-ltb _ _ (c .if1 .taken))
-
-add-t6 : tie.Need-add-t6
-add-t6 c = search needs
-
-cast-t7 : tie.Need-cast-t7
-cast-t7 c = search needs
 
 returns-2 : tie.Need-returns-2
 unfolding verdictOf checkNode unless _then_
@@ -29,4 +20,4 @@ unfolding verdictOf checkNode unless _then_
 returns-3 c = simp (lt-ltb _ _ (c .before .before .if1 .left), le-leb _ _ (c .if2 .left))
 
 pub check-node-spec : {M : Type 1} → statement M
-check-node-spec = tie.close (tie.spec cast-t5 returns add-t6 cast-t7 returns-2 returns-3)
+check-node-spec = tie.close (tie.spec (λ c. search needs) returns (λ c. search needs) (λ c. search needs) returns-2 returns-3)

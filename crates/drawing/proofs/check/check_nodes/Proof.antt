@@ -23,36 +23,12 @@ Inv-loop classes d n i₀ i =
 abbrev μ-loop : tie.MeasureT-loop
 μ-loop classes d n i₀ i = n - i
 
-node-count-requires : tie.Need-node-count-requires Inv-loop μ-loop
-node-count-requires c κs = search needs
-
 loop-holds : tie.Need-loop-holds Inv-loop μ-loop
 unfolding view
 loop-holds c = let s = c .before in let f = few (s .args .t1) (roomy _ (s .good .0)) in (omega arith, c .node-count .ensures, omega (arith, f .nodes), check-all _ _ _ _)
 
-mul-v : tie.Need-mul-v Inv-loop μ-loop
-mul-v c = omega arith
-
-element-copy-out-v : tie.Need-element-copy-out-v Inv-loop μ-loop
-element-copy-out-v c = omega arith
-
-mul-check-node : tie.Need-mul-check-node Inv-loop μ-loop
-mul-check-node c = omega arith
-
-add-check-node : tie.Need-add-check-node Inv-loop μ-loop
-add-check-node c = omega arith
-
-check-node-requires : tie.Need-check-node-requires Inv-loop μ-loop
-check-node-requires c κs = omega arith
-
-add-i : tie.Need-add-i Inv-loop μ-loop
-add-i c = omega arith
-
 enum-told : tie.Need-enum-told Inv-loop μ-loop
 enum-told c = search needs
-
-loop-less : tie.Need-loop-less Inv-loop μ-loop
-loop-less c = omega arith
 
 -- the answer for node i, then the check from the next node on, is the check of all
 turn : (c : tie.After-check-node Inv-loop μ-loop) →
@@ -85,16 +61,16 @@ check-nodes-spec =
     (tie.spec
     Inv-loop
     μ-loop
-    node-count-requires
+    (λ c κs. search needs)
     loop-holds
-    mul-v
-    element-copy-out-v
-    mul-check-node
-    add-check-node
-    check-node-requires
-    add-i
+    (λ c. omega arith)
+    (λ c. omega arith)
+    (λ c. omega arith)
+    (λ c. omega arith)
+    (λ c κs. omega arith)
+    (λ c. omega arith)
     enum-told
-    loop-less
+    (λ c. omega arith)
     loop-again
     returns
     returns-2)

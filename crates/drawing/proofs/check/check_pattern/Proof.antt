@@ -11,27 +11,12 @@ use borrow.Author.Needs.{needs}
 use Rattle.drawing.proofs.check.check_pattern.Statement.{statement}
 use Rattle.drawing.proofs.check.check_pattern.Tie as tie
 
-shared-slice-read-check-nodes : tie.Need-shared-slice-read-check-nodes
-shared-slice-read-check-nodes c = search needs
-
-check-nodes-requires : tie.Need-check-nodes-requires
-check-nodes-requires c κs = search needs
-
 enum-told : tie.Need-enum-told
 enum-told c = search needs
 
 returns : tie.Need-returns
 unfolding checkPattern classCount labelCount
 returns c = rw (← c .before .check-nodes .ensures) (stands _ _ (c .match .keys2))
-
-shared-slice-read-check-edges : tie.Need-shared-slice-read-check-edges
-shared-slice-read-check-edges c = search needs
-
-check-edges-requires : tie.Need-check-edges-requires
-check-edges-requires c κs = search needs
-
-enum-told-2 : tie.Need-enum-told-2
-enum-told-2 c = search needs
 
 returns-2 : tie.Need-returns-2
 unfolding checkPattern classCount labelCount
@@ -40,9 +25,6 @@ returns-2 c =
     let told = edges .before .before in
     let nodes = told .before .before in
     rw (← nodes .check-nodes .ensures, ← edges .check-edges .ensures) (stands _ _ (c .match2 .keys2) ∙ leaves _ (told .enum-told .given .1))
-
-has-pick-requires : tie.Need-has-pick-requires
-has-pick-requires c κs = search needs
 
 -- nodes and edges are accepted: what is left is whether one is picked
 picks-left : (c : tie.After-has-pick) {b : Bool} → c .has-pick .result ≡ b →
@@ -69,14 +51,14 @@ pub check-pattern-spec : {M : Type 1} → statement M
 check-pattern-spec =
     tie.close
     (tie.spec
-    shared-slice-read-check-nodes
-    check-nodes-requires
+    (λ c. search needs)
+    (λ c κs. search needs)
     enum-told
     returns
-    shared-slice-read-check-edges
-    check-edges-requires
-    enum-told-2
+    (λ c. search needs)
+    (λ c κs. search needs)
+    (λ c. search needs)
     returns-2
-    has-pick-requires
+    (λ c κs. search needs)
     returns-3
     returns-4)

@@ -6,15 +6,9 @@ use borrow.Author.Needs.{needs}
 use Rattle.drawing.proofs.check.check_words.Statement.{statement}
 use Rattle.drawing.proofs.check.check_words.Tie as tie
 
-right-length-requires : tie.Need-right-length-requires
-right-length-requires c κs = search needs
-
 read-drawing-requires : tie.Need-read-drawing-requires
 unfolding unless
 read-drawing-requires c κs = sym (c .before .right-length .ensures) ∙ rw (c .if1 .taken)
-
-check-pattern-requires : tie.Need-check-pattern-requires
-check-pattern-requires c κs = search needs
 
 returns : tie.Need-returns
 unfolding unless _then_
@@ -30,4 +24,4 @@ returns-2 c = rw (← c .before .right-length .ensures, c .if1 .left)
 pub check-words-spec : {M : Type 1} → statement M
 check-words-spec =
     tie.close
-    (tie.spec right-length-requires read-drawing-requires check-pattern-requires returns returns-2)
+    (tie.spec (λ c κs. search needs) read-drawing-requires (λ c κs. search needs) returns returns-2)

@@ -21,21 +21,9 @@ Inv-loop d n i₀ i =
 abbrev μ-loop : tie.MeasureT-loop
 μ-loop d n i₀ i = n - i
 
-node-count-requires : tie.Need-node-count-requires Inv-loop μ-loop
-node-count-requires c κs = search needs
-
 loop-holds : tie.Need-loop-holds Inv-loop μ-loop
 unfolding view
 loop-holds c = let s = c .before in let f = few (s .args .t1) (roomy _ (s .good .0)) in (omega arith, c .node-count .ensures, omega (arith, f .nodes), refl)
-
-mul-v : tie.Need-mul-v Inv-loop μ-loop
-mul-v c = omega arith
-
-element-copy-out-v : tie.Need-element-copy-out-v Inv-loop μ-loop
-element-copy-out-v c = omega arith
-
-add-i : tie.Need-add-i Inv-loop μ-loop
-add-i c = omega arith
 
 returns : tie.Need-returns Inv-loop μ-loop
 unfolding any isPicked view
@@ -43,9 +31,6 @@ returns c =
     let head = c .before .before .before .before in
     let d = head .before .before .args .t1 in
     rw (front-next (d .n) (d .nodes) (head .loop .i) noNode (omega (arith, head .loop .inv .1)), eq-eqb _ _ (c .if1 .taken)) at (head .loop .inv .3)
-
-loop-less : tie.Need-loop-less Inv-loop μ-loop
-loop-less c = omega arith
 
 loop-again : tie.Need-loop-again Inv-loop μ-loop
 unfolding any isPicked
@@ -68,12 +53,12 @@ has-pick-spec =
     (tie.spec
     Inv-loop
     μ-loop
-    node-count-requires
+    (λ c κs. search needs)
     loop-holds
-    mul-v
-    element-copy-out-v
-    add-i
+    (λ c. omega arith)
+    (λ c. omega arith)
+    (λ c. omega arith)
     returns
-    loop-less
+    (λ c. omega arith)
     loop-again
     returns-2)

@@ -9,12 +9,6 @@ use native.Mathlib.Omega.{arith}
 use Rattle.drawing.proofs.words.write_all.Statement.{statement}
 use Rattle.drawing.proofs.words.write_all.Tie as tie
 
-node-count-requires : tie.Need-node-count-requires
-node-count-requires c κs = search needs
-
-edge-count-requires : tie.Need-edge-count-requires
-edge-count-requires c κs = search needs
-
 cast-put-two : tie.Need-cast-put-two
 cast-put-two c = let s = c .before .before .before .before in let f = few (s .args .d) (roomy _ (s .good .1 .0)) in omega (arith, f .nodes)
 
@@ -44,9 +38,6 @@ write-edges-requires c κs =
     let w = nodes .write-nodes .ensures in
     omega (arith, s .pre, put .put-two .ensures .next, put-size (put .put-two .ensures), w .next, put-size w)
 
-same-length : tie.Need-same-length
-same-length c = search needs
-
 returns : tie.Need-returns
 returns c =
     let edges = c .before .before in
@@ -61,12 +52,12 @@ pub write-all-spec : {M : Type 1} → statement M
 write-all-spec =
     tie.close
     (tie.spec
-    node-count-requires
-    edge-count-requires
+    (λ c κs. search needs)
+    (λ c κs. search needs)
     cast-put-two
     cast-put-two-2
     put-two-requires
     write-nodes-requires
     write-edges-requires
-    same-length
+    (λ c. search needs)
     returns)

@@ -22,18 +22,9 @@ Inv-loop words₀ at d e out₀ i₀ words out i =
 abbrev μ-loop : tie.MeasureT-loop
 μ-loop words₀ at d e out₀ i₀ words out i = e - i
 
-edge-count-requires : tie.Need-edge-count-requires Inv-loop μ-loop
-edge-count-requires c κs = search needs
-
 loop-holds : tie.Need-loop-holds Inv-loop μ-loop
 unfolding view
 loop-holds c = let s = c .before .before in let f = few (s .args .t3) (roomy _ (s .good .1 .1 .0)) in (omega arith, c .edge-count .ensures, omega (arith, f .edges), putting-start _ _ _)
-
-mul-x : tie.Need-mul-x Inv-loop μ-loop
-mul-x c = omega arith
-
-element-copy-out-x : tie.Need-element-copy-out-x Inv-loop μ-loop
-element-copy-out-x c = omega arith
 
 put-three-requires : tie.Need-put-three-requires Inv-loop μ-loop
 unfolding view edgeWords
@@ -44,12 +35,6 @@ put-three-requires c κs =
     let size = length-words edgeWords edgeWidth edge-width (take (d .e) (d .edges)) in
     let next = words-next edgeWords (d .e) (d .edges) (head .loop .i) noEdge (omega (arith, head .loop .inv .1)) in
     putting-room (edgeWords (getD (d .edges) (head .loop .i) noEdge)) _ next (head .loop .inv .3) (omega (arith, s .pre))
-
-add-i : tie.Need-add-i Inv-loop μ-loop
-add-i c = omega arith
-
-loop-less : tie.Need-loop-less Inv-loop μ-loop
-loop-less c = omega arith
 
 loop-again : tie.Need-loop-again Inv-loop μ-loop
 unfolding edgeWords
@@ -73,13 +58,13 @@ write-edges-spec =
     (tie.spec
     Inv-loop
     μ-loop
-    edge-count-requires
+    (λ c κs. search needs)
     loop-holds
-    mul-x
-    element-copy-out-x
+    (λ c. omega arith)
+    (λ c. omega arith)
     put-three-requires
-    add-i
-    loop-less
+    (λ c. omega arith)
+    (λ c. omega arith)
     loop-again
     same-length
     returns)

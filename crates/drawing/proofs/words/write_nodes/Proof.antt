@@ -22,18 +22,9 @@ Inv-loop words₀ at d n out₀ i₀ words out i =
 abbrev μ-loop : tie.MeasureT-loop
 μ-loop words₀ at d n out₀ i₀ words out i = n - i
 
-node-count-requires : tie.Need-node-count-requires Inv-loop μ-loop
-node-count-requires c κs = search needs
-
 loop-holds : tie.Need-loop-holds Inv-loop μ-loop
 unfolding view
 loop-holds c = let s = c .before .before in let f = few (s .args .t3) (roomy _ (s .good .1 .1 .0)) in (omega arith, c .node-count .ensures, omega (arith, f .nodes), putting-start _ _ _)
-
-mul-v : tie.Need-mul-v Inv-loop μ-loop
-mul-v c = omega arith
-
-element-copy-out-v : tie.Need-element-copy-out-v Inv-loop μ-loop
-element-copy-out-v c = omega arith
 
 put-two-requires : tie.Need-put-two-requires Inv-loop μ-loop
 unfolding view nodeWords
@@ -44,12 +35,6 @@ put-two-requires c κs =
     let size = length-words nodeWords nodeWidth node-width (take (d .n) (d .nodes)) in
     let next = words-next nodeWords (d .n) (d .nodes) (head .loop .i) noNode (omega (arith, head .loop .inv .1)) in
     putting-room (nodeWords (getD (d .nodes) (head .loop .i) noNode)) _ next (head .loop .inv .3) (omega (arith, s .pre))
-
-add-i : tie.Need-add-i Inv-loop μ-loop
-add-i c = omega arith
-
-loop-less : tie.Need-loop-less Inv-loop μ-loop
-loop-less c = omega arith
 
 loop-again : tie.Need-loop-again Inv-loop μ-loop
 unfolding nodeWords
@@ -73,13 +58,13 @@ write-nodes-spec =
     (tie.spec
     Inv-loop
     μ-loop
-    node-count-requires
+    (λ c κs. search needs)
     loop-holds
-    mul-v
-    element-copy-out-v
+    (λ c. omega arith)
+    (λ c. omega arith)
     put-two-requires
-    add-i
-    loop-less
+    (λ c. omega arith)
+    (λ c. omega arith)
     loop-again
     same-length
     returns)
