@@ -13,32 +13,11 @@ Inv-loop feed₀ size i₀ feed i = length feed ≡ length feed₀
 abbrev μ-loop : tie.MeasureT-loop
 μ-loop feed₀ size i₀ feed i = size - i
 
-loop-holds : tie.Need-loop-holds Inv-loop μ-loop
-loop-holds c = search needs
-
-word-requires : tie.Need-word-requires Inv-loop μ-loop
-word-requires c κs = search needs
-
-mul-feed : tie.Need-mul-feed Inv-loop μ-loop
-mul-feed c = search needs
-
-slice-write-feed : tie.Need-slice-write-feed Inv-loop μ-loop
-slice-write-feed c = search needs
-
-add-i : tie.Need-add-i Inv-loop μ-loop
-add-i c = search needs
-
-loop-less : tie.Need-loop-less Inv-loop μ-loop
-loop-less c = search needs
-
 loop-again : tie.Need-loop-again Inv-loop μ-loop
 loop-again c = length-set (c .before .before .loop .feed) (c .before .before .loop .i) _ ∙ c .before .before .loop .inv
 
 same-length : tie.Need-same-length Inv-loop μ-loop
 same-length c = c .before .loop .inv
-
-returns : tie.Need-returns Inv-loop μ-loop
-returns c = search needs
 
 pub fill-spec : {M : Type 1} → statement M
 fill-spec =
@@ -46,12 +25,12 @@ fill-spec =
     (tie.spec
     Inv-loop
     μ-loop
-    loop-holds
-    word-requires
-    mul-feed
-    slice-write-feed
-    add-i
-    loop-less
+    (λ c. search needs)
+    (λ c κs. search needs)
+    (λ c. search needs)
+    (λ c. search needs)
+    (λ c. search needs)
+    (λ c. search needs)
     loop-again
     same-length
-    returns)
+    (λ c. search needs))

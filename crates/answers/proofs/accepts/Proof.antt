@@ -7,9 +7,6 @@ use borrow.Author.Needs.{needs}
 use Rattle.answers.proofs.accepts.Statement.{statement}
 use Rattle.answers.proofs.accepts.Tie as tie
 
-enum-told : tie.Need-enum-told
-enum-told c = search needs
-
 returns : tie.Need-returns
 unfolding isAccepted verdictOf
 returns c = search needs
@@ -18,4 +15,4 @@ returns-2 : tie.Need-returns-2
 returns-2 c = refuses _ (c .match .keys2)
 
 pub accepts-spec : {M : Type 1} → statement M
-accepts-spec = tie.close (tie.spec enum-told returns returns-2)
+accepts-spec = tie.close (tie.spec (λ c. search needs) returns returns-2)

@@ -6,51 +6,6 @@ use borrow.Author.Needs.{needs}
 use Rattle.answers.proofs.number_and_place.Statement.{statement}
 use Rattle.answers.proofs.number_and_place.Tie as tie
 
-enum-told : tie.Need-enum-told
-enum-told c = search needs
-
-enum-told-2 : tie.Need-enum-told-2
-enum-told-2 c = search needs
-
-enum-known-answer : tie.Need-enum-known-answer
-enum-known-answer c = search needs
-
-enum-known-answer-2 : tie.Need-enum-known-answer-2
-enum-known-answer-2 c = search needs
-
-enum-known-answer-3 : tie.Need-enum-known-answer-3
-enum-known-answer-3 c = search needs
-
-enum-told-3 : tie.Need-enum-told-3
-enum-told-3 c = search needs
-
-enum-known-answer-4 : tie.Need-enum-known-answer-4
-enum-known-answer-4 c = search needs
-
-enum-told-4 : tie.Need-enum-told-4
-enum-told-4 c = search needs
-
-enum-told-5 : tie.Need-enum-told-5
-enum-told-5 c = search needs
-
-enum-known-answer-5 : tie.Need-enum-known-answer-5
-enum-known-answer-5 c = search needs
-
-enum-known-answer-6 : tie.Need-enum-known-answer-6
-enum-known-answer-6 c = search needs
-
-enum-known-answer-7 : tie.Need-enum-known-answer-7
-enum-known-answer-7 c = search needs
-
-enum-told-6 : tie.Need-enum-told-6
-enum-told-6 c = search needs
-
-enum-known-answer-8 : tie.Need-enum-known-answer-8
-enum-known-answer-8 c = search needs
-
-enum-known-answer-9 : tie.Need-enum-known-answer-9
-enum-known-answer-9 c = search needs
-
 returns : tie.Need-returns
 unfolding number verdictOf location
 returns c = search needs
@@ -115,21 +70,21 @@ pub number-and-place-spec : {M : Type 1} → statement M
 number-and-place-spec =
     tie.close
     (tie.spec
-    enum-told
-    enum-told-2
-    enum-known-answer
-    enum-known-answer-2
-    enum-known-answer-3
-    enum-told-3
-    enum-known-answer-4
-    enum-told-4
-    enum-told-5
-    enum-known-answer-5
-    enum-known-answer-6
-    enum-known-answer-7
-    enum-told-6
-    enum-known-answer-8
-    enum-known-answer-9
+    (λ c. search needs)
+    (λ c. search needs)
+    (λ c. search needs)
+    (λ c. search needs)
+    (λ c. search needs)
+    (λ c. search needs)
+    (λ c. search needs)
+    (λ c. search needs)
+    (λ c. search needs)
+    (λ c. search needs)
+    (λ c. search needs)
+    (λ c. search needs)
+    (λ c. search needs)
+    (λ c. search needs)
+    (λ c. search needs)
     returns
     returns-2
     returns-3

@@ -5,15 +5,9 @@ use borrow.Author.Needs.{needs}
 use Rattle.matcher.proofs.matcher_check_drawing.Statement.{statement}
 use Rattle.matcher.proofs.matcher_check_drawing.Tie as tie
 
-check-drawing-requires : tie.Need-check-drawing-requires
-check-drawing-requires c κs = search needs
-
-say-requires : tie.Need-say-requires
-say-requires c κs = search needs
-
 returns : tie.Need-returns
 returns c = says-same (c .before .before .check-drawing .ensures) (c .say .ensures)
 
 pub matcher-check-drawing-spec : {M : Type 1} → statement M
 matcher-check-drawing-spec =
-    tie.close (tie.spec check-drawing-requires say-requires returns)
+    tie.close (tie.spec (λ c κs. search needs) (λ c κs. search needs) returns)

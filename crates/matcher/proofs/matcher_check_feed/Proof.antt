@@ -5,14 +5,8 @@ use Rattle.answers.proofs.Saying.{says-same}
 use Rattle.matcher.proofs.matcher_check_feed.Statement.{statement}
 use Rattle.matcher.proofs.matcher_check_feed.Tie as tie
 
-check-feed-requires : tie.Need-check-feed-requires
-check-feed-requires c κs = search needs
-
-say-requires : tie.Need-say-requires
-say-requires c κs = search needs
-
 returns : tie.Need-returns
 returns c = says-same (c .before .before .check-feed .ensures) (c .say .ensures)
 
 pub matcher-check-feed-spec : {M : Type 1} → statement M
-matcher-check-feed-spec = tie.close (tie.spec check-feed-requires say-requires returns)
+matcher-check-feed-spec = tie.close (tie.spec (λ c κs. search needs) (λ c κs. search needs) returns)

@@ -44,12 +44,6 @@ put-requires c κs =
     let r = writing-room (at-loop .loop .inv .0) (at-count-lines .count-lines .result ∷ []) rest (rw (tables-more es _ _ (at-loop-test .loop-test .taken), at-count-lines .count-lines .ensures)) (omega (arith, s .pre .1 .1 .1)) in
     omega arith
 
-add-k : tie.Need-add-k Inv-loop μ-loop
-add-k c = omega arith
-
-loop-less : tie.Need-loop-less Inv-loop μ-loop
-loop-less c = omega arith
-
 loop-again : tie.Need-loop-again Inv-loop μ-loop
 loop-again c =
     let at-put = c .before .before in
@@ -77,8 +71,8 @@ put-counts-spec =
     cast-count-lines
     count-lines-requires
     put-requires
-    add-k
-    loop-less
+    (λ c. omega arith)
+    (λ c. omega arith)
     loop-again
     same-length
     returns)

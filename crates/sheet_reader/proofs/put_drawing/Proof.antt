@@ -46,9 +46,6 @@ put-edges-requires c κs =
     let v = at-put-nodes .put-nodes in
     (s .pre .0, omega (arith, s .pre .0 .fewNodes, s .pre .0 .fewEdges, w .ensures .count, w .kept .0, v .ensures .count, v .kept .0, s .pre .1))
 
-same-length : tie.Need-same-length
-same-length c = search needs
-
 returns : tie.Need-returns
 unfolding view
 returns c =
@@ -66,5 +63,5 @@ put-drawing-spec =
     put-two-requires
     put-nodes-requires
     put-edges-requires
-    same-length
+    (λ c. search needs)
     returns)

@@ -104,9 +104,6 @@ put-tables-requires-2 c κs =
       ),
     )
 
-same-length : tie.Need-same-length
-same-length c = search needs
-
 returns : tie.Need-returns
 returns c =
     let at-put-tables2 = c .before .before in
@@ -128,5 +125,5 @@ put-feed-spec =
     put-counts-requires-2
     put-tables-requires
     put-tables-requires-2
-    same-length
+    (λ c. search needs)
     returns)

@@ -24,36 +24,6 @@ loop-holds c =
     let s = c .before .before in
     (writing-same (sym (ap (flatMap pairWords) (lines-all _ _ (s .pre .0) _))) (writing-start _ _ _ _), omega arith)
 
-mul-j : tie.Need-mul-j Inv-loop μ-loop
-mul-j c = omega arith
-
-add-i : tie.Need-add-i Inv-loop μ-loop
-add-i c = omega arith
-
-mul-if1 : tie.Need-mul-if1 Inv-loop μ-loop
-mul-if1 c = omega arith
-
-shared-slice-read-if1 : tie.Need-shared-slice-read-if1 Inv-loop μ-loop
-shared-slice-read-if1 c = omega arith
-
-add-put-two : tie.Need-add-put-two Inv-loop μ-loop
-add-put-two c = omega arith
-
-mul-put-two : tie.Need-mul-put-two Inv-loop μ-loop
-mul-put-two c = omega arith
-
-shared-slice-read-put-two : tie.Need-shared-slice-read-put-two Inv-loop μ-loop
-shared-slice-read-put-two c = omega arith
-
-add-put-two-2 : tie.Need-add-put-two-2 Inv-loop μ-loop
-add-put-two-2 c = omega arith
-
-mul-put-two-2 : tie.Need-mul-put-two-2 Inv-loop μ-loop
-mul-put-two-2 c = omega arith
-
-shared-slice-read-put-two-2 : tie.Need-shared-slice-read-put-two-2 Inv-loop μ-loop
-shared-slice-read-put-two-2 c = omega arith
-
 put-two-requires : tie.Need-put-two-requires Inv-loop μ-loop
 unfolding flatMap
 put-two-requires c κs =
@@ -67,9 +37,6 @@ put-two-requires c κs =
     let r = writing-room (at-loop .loop .inv .0) (getD ws (3 * i + 1) 0 ∷ getD ws (3 * i + 2) 0 ∷ []) _ (ap (flatMap pairWords) e) (s .pre .1) in
     omega arith
 
-loop-less : tie.Need-loop-less Inv-loop μ-loop
-loop-less c = omega arith
-
 loop-again : tie.Need-loop-again Inv-loop μ-loop
 unfolding flatMap
 loop-again c =
@@ -79,9 +46,6 @@ loop-again c =
     let at-loop = at-loop-test .before in
     let s = at-loop .before .before .before in
     (writing-some (at-loop .loop .inv .0) (ap (flatMap pairWords) (lines-in _ _ (s .pre .0) _ _ (at-loop-test .loop-test .taken) (at-if1 .if1 .taken))) (at-put-two .put-two .ensures) (at-put-two .put-two .kept .0), omega arith)
-
-loop-less-2 : tie.Need-loop-less-2 Inv-loop μ-loop
-loop-less-2 c = omega arith
 
 loop-again-2 : tie.Need-loop-again-2 Inv-loop μ-loop
 loop-again-2 c =
@@ -107,20 +71,20 @@ put-table-spec =
     Inv-loop
     μ-loop
     loop-holds
-    mul-j
-    add-i
-    mul-if1
-    shared-slice-read-if1
-    add-put-two
-    mul-put-two
-    shared-slice-read-put-two
-    add-put-two-2
-    mul-put-two-2
-    shared-slice-read-put-two-2
+    (λ c. omega arith)
+    (λ c. omega arith)
+    (λ c. omega arith)
+    (λ c. omega arith)
+    (λ c. omega arith)
+    (λ c. omega arith)
+    (λ c. omega arith)
+    (λ c. omega arith)
+    (λ c. omega arith)
+    (λ c. omega arith)
     put-two-requires
-    loop-less
+    (λ c. omega arith)
     loop-again
-    loop-less-2
+    (λ c. omega arith)
     loop-again-2
     same-length
     returns)

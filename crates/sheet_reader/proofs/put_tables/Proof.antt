@@ -36,12 +36,6 @@ put-table-requires c κs =
     let es = entries (s .args .rows .now) (s .args .lines) in
     (s .pre .0, writing-room (at-loop .loop .inv .0) (flatMap pairWords (linesOf (at-loop .loop .k) es)) _ (ap (flatMap (flatMap pairWords)) (tables-more es _ _ (at-loop-test .loop-test .taken))) (s .pre .1 .1))
 
-add-k : tie.Need-add-k Inv-loop μ-loop
-add-k c = omega arith
-
-loop-less : tie.Need-loop-less Inv-loop μ-loop
-loop-less c = omega arith
-
 loop-again : tie.Need-loop-again Inv-loop μ-loop
 unfolding flatMap
 loop-again c =
@@ -66,8 +60,8 @@ put-tables-spec =
     loop-holds
     cast-put-table
     put-table-requires
-    add-k
-    loop-less
+    (λ c. omega arith)
+    (λ c. omega arith)
     loop-again
     same-length
     returns)

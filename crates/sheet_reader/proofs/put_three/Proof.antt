@@ -5,14 +5,8 @@ use native.Mathlib.Omega.{arith}
 use Rattle.sheet_reader.proofs.put_three.Statement.{statement}
 use Rattle.sheet_reader.proofs.put_three.Tie as tie
 
-put-requires : tie.Need-put-requires
-put-requires c κs = search needs
-
 put-two-requires : tie.Need-put-two-requires
 put-two-requires c κs = omega (arith, c .before .before .before .put .ensures .count, c .before .before .before .put .kept .0)
-
-same-length : tie.Need-same-length
-same-length c = search needs
 
 returns : tie.Need-returns
 returns c =
@@ -21,4 +15,4 @@ returns c =
     wrote-then (at-put .put .ensures) (at-put-two .put-two .ensures)
 
 pub put-three-spec : {M : Type 1} → statement M
-put-three-spec = tie.close (tie.spec put-requires put-two-requires same-length returns)
+put-three-spec = tie.close (tie.spec (λ c κs. search needs) put-two-requires (λ c. search needs) returns)

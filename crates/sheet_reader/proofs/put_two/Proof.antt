@@ -5,14 +5,8 @@ use native.Mathlib.Omega.{arith}
 use Rattle.sheet_reader.proofs.put_two.Statement.{statement}
 use Rattle.sheet_reader.proofs.put_two.Tie as tie
 
-put-requires : tie.Need-put-requires
-put-requires c κs = search needs
-
 put-requires-2 : tie.Need-put-requires-2
 put-requires-2 c κs = omega (arith, c .before .before .before .put .ensures .count, c .before .before .before .put .kept .0)
-
-same-length : tie.Need-same-length
-same-length c = search needs
 
 returns : tie.Need-returns
 returns c =
@@ -21,4 +15,4 @@ returns c =
     wrote-then (at-put .put .ensures) (at-put2 .put2 .ensures)
 
 pub put-two-spec : {M : Type 1} → statement M
-put-two-spec = tie.close (tie.spec put-requires put-requires-2 same-length returns)
+put-two-spec = tie.close (tie.spec (λ c κs. search needs) put-requires-2 (λ c. search needs) returns)

@@ -15,9 +15,6 @@ Inv-loop classes₀ labels₀ s n x₀ a₀ at₀ classes labels x a at = (Going
 abbrev μ-loop : tie.MeasureT-loop
 μ-loop classes₀ labels₀ s n x₀ a₀ at₀ classes labels x a at = n - a
 
-empty-requires : tie.Need-empty-requires Inv-loop μ-loop
-empty-requires c κs = search needs
-
 loop-holds : tie.Need-loop-holds Inv-loop μ-loop
 loop-holds c = rw (c .empty .ensures) (lines-start _ _ _, refl)
 
@@ -124,7 +121,7 @@ read-lines-spec =
     (tie.spec
     Inv-loop
     μ-loop
-    empty-requires
+    (λ c κs. search needs)
     loop-holds
     cut-requires
     same-length

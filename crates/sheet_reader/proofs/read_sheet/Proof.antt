@@ -6,9 +6,6 @@ use native.Mathlib.Omega.{arith}
 use Rattle.sheet_reader.proofs.read_sheet.Statement.{statement}
 use Rattle.sheet_reader.proofs.read_sheet.Tie as tie
 
-no-names-requires : tie.Need-no-names-requires
-no-names-requires c κs = search needs
-
 returns : tie.Need-returns
 returns c = broken (sheet-long _ (c .before .if1 .taken))
 
@@ -17,9 +14,6 @@ read-lines-requires c κs =
     let at-if1 = c .before .before in
     let s = at-if1 .before .before .before .before .before .before in
     (at-if1 .if1 .left, (s .pre .1 .1 .0, s .pre .1 .1 .1))
-
-enum-known-found : tie.Need-enum-known-found
-enum-known-found c = search needs
 
 enum-told : tie.Need-enum-told
 enum-told c = search needs
@@ -38,30 +32,12 @@ put-drawing-requires c κs =
     let s = at-read-lines .before .before .before .before .before .before .before .before .before in
     (drawn (at-read-lines .read-lines .ensures .fine), s .pre .1 .0)
 
-same-length : tie.Need-same-length
-same-length c = search needs
-
-same-length-2 : tie.Need-same-length-2
-same-length-2 c = search needs
-
 returns-2 : tie.Need-returns-2
 returns-2 c =
     let at-found = c .before in
     let at-read-lines = at-found .before .before .before .before .before .before .before .before in
     let at-if1 = at-read-lines .before .before .before in
     broken (sheet-broken (at-read-lines .read-lines .ensures) (at-if1 .if1 .left) (at-found .found .given .1))
-
-same-length-3 : tie.Need-same-length-3
-same-length-3 c = search needs
-
-same-length-4 : tie.Need-same-length-4
-same-length-4 c = search needs
-
-same-length-5 : tie.Need-same-length-5
-same-length-5 c = search needs
-
-same-length-6 : tie.Need-same-length-6
-same-length-6 c = search needs
 
 returns-3 : tie.Need-returns-3
 returns-3 c =
@@ -78,18 +54,18 @@ pub read-sheet-spec : {M : Type 1} → statement M
 read-sheet-spec =
     tie.close
     (tie.spec
-    no-names-requires
+    (λ c κs. search needs)
     returns
     read-lines-requires
-    enum-known-found
+    (λ c. search needs)
     enum-told
     put-feed-requires
     put-drawing-requires
-    same-length
-    same-length-2
+    (λ c. search needs)
+    (λ c. search needs)
     returns-2
-    same-length-3
-    same-length-4
-    same-length-5
-    same-length-6
+    (λ c. search needs)
+    (λ c. search needs)
+    (λ c. search needs)
+    (λ c. search needs)
     returns-3)
