@@ -4,15 +4,9 @@ use borrow.Author.Needs.{needs}
 use Rattle.sheet_reader.proofs.empty.Statement.{statement}
 use Rattle.sheet_reader.proofs.empty.Tie as tie
 
-no-names-requires : tie.Need-no-names-requires
-no-names-requires c κs = search needs
-
-empty-requires : tie.Need-empty-requires
-empty-requires c κs = search needs
-
 returns : tie.Need-returns
 unfolding noState
 returns c = rw (c .before .no-names .ensures, c .empty .ensures)
 
 pub empty-spec : {M : Type 1} → statement M
-empty-spec = tie.close (tie.spec no-names-requires empty-requires returns)
+empty-spec = tie.close (tie.spec (λ c κs. search needs) (λ c κs. search needs) returns)
