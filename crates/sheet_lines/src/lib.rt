@@ -356,7 +356,7 @@ fn end_section(x: State) -> Step
 
 // A line of values, by its section.
 fn value_line(classes: &mut [u32], labels: &mut [u32], s: &[u8], line: Span, x: State) -> Step
-    requires { ⌜ Held (now s) (now classes) (now labels) line x ⌝ }
+    requires { ⌜ Ready (now s) line x ⌝ ∗ ⌜ Held (now classes) (now labels) ⌝ }
     ensures { λ r. ⌜ LineRead (now (s .entry)) (now (classes .entry)) (now (classes .exit)) (now (labels .entry)) (now (labels .exit)) line x r (λ v. readValues v (fields (textAt (now (s .entry)) line))) ⌝ }
 {
     let section = x.section;
@@ -374,7 +374,7 @@ fn value_line(classes: &mut [u32], labels: &mut [u32], s: &[u8], line: Span, x: 
 
 // Any line.
 pub fn read_line(classes: &mut [u32], labels: &mut [u32], s: &[u8], line: Span, x: State) -> Step
-    requires { ⌜ Held (now s) (now classes) (now labels) line x ⌝ }
+    requires { ⌜ Ready (now s) line x ⌝ ∗ ⌜ Held (now classes) (now labels) ⌝ }
     ensures { λ r. ⌜ LineRead (now (s .entry)) (now (classes .entry)) (now (classes .exit)) (now (labels .entry)) (now (labels .exit)) line x r (λ v. readLine v (textAt (now (s .entry)) line)) ⌝ }
 {
     if x.opened {

@@ -12,6 +12,7 @@ use lib.ListN.{length, getD}
 use lib.Seq.{slice}
 use borrow.Author.Tests.{eq-eqb, ne-eqb}
 use Rattle.tables.proofs.Parts.{slice-none, slice-next}
+use Rattle.answers.specs.Verdict.{Verdict, Says}
 use Rattle.sheet_text.specs.Text.{bytes, digits}
 use Rattle.sheet_listing.specs.Listing.{line, refusal}
 use Rattle.sheet_listing.specs.inner.Written.{Put, gap}
@@ -74,6 +75,6 @@ module _ {before after : List ℕ} {at : ℕ} {ws : List ℕ} {a e i k : ℕ} (l
 
 -- ---- the line of a refusal
 
-pub refusal-text : {word : List ℕ} (n p : ℕ) → word ≡ bytes "refused" → word ++ (gap false ++ digits n) ++ (gap false ++ digits p) ++ (10 ∷ []) ≡ refusal n p
+pub refusal-text : {word : List ℕ} {n p : ℕ} (v : Verdict) → word ≡ bytes "refused" → Says v n p → word ++ (gap false ++ digits n) ++ (gap false ++ digits p) ++ (10 ∷ []) ≡ refusal v
 unfolding refusal line gap
-refusal-text n p e = rw e (simp append-assoc)
+refusal-text v e s = rw (e, s .says, s .place) (simp append-assoc)

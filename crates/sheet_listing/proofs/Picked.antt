@@ -13,12 +13,13 @@ use lib.Seq.{slice, slice-cons}
 use borrow.Author.Tests.{eq-eqb, ne-eqb}
 use Rattle.drawing.specs.declared.Node.{Node}
 use Rattle.drawing.specs.Drawing.{node, isPicked}
-use Rattle.builder.specs.declared.Drawing.{Drawing}
-use Rattle.builder.specs.Builder.{view}
-use Rattle.sheet_text.specs.inner.Parts.{span, nameAt, namesOf, Spans}
+use Rattle.drawing.specs.declared.Drawing.{Drawing}
+use Rattle.drawing.specs.Builder.{view}
+use Rattle.drawing.proofs.Builder.{Roomy}
+use Rattle.sheet_text.specs.inner.Parts.{span, textAt, namesOf}
 use Rattle.sheet_text.specs.declared.Names.{Names}
 use Rattle.sheet_listing.specs.Listing.{line, pickedNames}
-use Rattle.sheet_listing.specs.inner.Written.{Put, gap}
+use Rattle.sheet_listing.specs.inner.Written.{Put, gap, Named}
 use Rattle.sheet_listing.proofs.Putting.{Putting, putting-start, putting-same, putting-some, putting-last}
 use Rattle.sheet_listing.proofs.Lines.{lineFrom, line-whole, line-next, line-end}
 
@@ -26,7 +27,7 @@ use Rattle.sheet_listing.proofs.Lines.{lineFrom, line-whole, line-next,
 
 -- those of the picked nodes from number i on
 unfoldable pub pickedFrom : List ℕ → Names → Drawing → ℕ → List (List ℕ)
-pickedFrom s x d i = pickedNames (map (nameAt s) (slice i (x .n) (x .spans))) (slice i (d .n) (d .nodes))
+pickedFrom s x d i = pickedNames (map (textAt s) (slice i (x .n) (x .spans))) (slice i (d .n) (d .nodes))
 
 picked-cons : {n : List ℕ} {ns ms : List (List ℕ)} {v : Node} {vs ws : List Node} → ms ≡ n ∷ ns → ws ≡ v ∷ vs
     → pickedNames ms ws ≡ cond (isPicked v) (n ∷ pickedNames ns vs) (pickedNames ns vs)
@@ -44,24 +45,18 @@ picked-none s x d i h =
     let k : length (take (x .n) (x .spans)) ≤ i = omega arith in
     rw (drop-of-length-le (take (x .n) (x .spans)) {i = i} k)
 
--- a name for each node, each of them a part of the sheet, in arrays that hold them
-pub record Named (s : List ℕ) (x : Names) (d : Drawing) : Type 0 where
-  pub spans : Spans s x 12
-  pub each : x .n ≡ d .n
-  pub room : length (d .nodes) ≡ 12
-
-module _ {s : List ℕ} {x : Names} {d : Drawing} (g : Named s x d) (i : ℕ) (h : i < d .n) where
-  picked-next : pickedFrom s x d i ≡ cond (isPicked (getD (d .nodes) i (node 0 0))) (nameAt s (getD (x .spans) i (span 0 0)) ∷ pickedFrom s x d (i + 1)) (pickedFrom s x d (i + 1))
+module _ {s : List ℕ} {x : Names} {d : Drawing} (g : Named s x d) (r : Roomy d) (i : ℕ) (h : i < d .n) where
+  picked-next : pickedFrom s x d i ≡ cond (isPicked (getD (d .nodes) i (node 0 0))) (textAt s (getD (x .spans) i (span 0 0)) ∷ pickedFrom s x d (i + 1)) (pickedFrom s x d (i + 1))
   unfolding pickedFrom
   picked-next =
       let f = g .spans .few in
       let z = g .spans .size in
       let e = g .each in
-      let r = g .room in
+      let n = r .nodes in
       rw add-one
-      (picked-cons (ap (map (nameAt s)) (slice-cons i (x .n) (x .spans) (span 0 0) (omega arith) (omega arith))) (slice-cons i (d .n) (d .nodes) (node 0 0) h (omega arith)))
+      (picked-cons (ap (map (textAt s)) (slice-cons i (x .n) (x .spans) (span 0 0) (omega arith) (omega arith))) (slice-cons i (d .n) (d .nodes) (node 0 0) h (omega arith)))
 
-  picked-takes : getD (d .nodes) i (node 0 0) .pick ≡ 1 → pickedFrom s x d i ≡ nameAt s (getD (x .spans) i (span 0 0)) ∷ pickedFrom s x d (i + 1)
+  picked-takes : getD (d .nodes) i (node 0 0) .pick ≡ 1 → pickedFrom s x d i ≡ textAt s (getD (x .spans) i (span 0 0)) ∷ pickedFrom s x d (i + 1)
   unfolding isPicked
   picked-takes e = picked-next ∙ rw (eq-eqb (getD (d .nodes) i (node 0 0) .pick) 1 e)
 
@@ -83,13 +78,13 @@ naming-start out at s x d = record {
       putting-same (ap line (picked-whole s x d) ∙ line-whole (pickedFrom s x d 0)) (putting-start out at (line (pickedNames (namesOf s x) (view d .nodes))));
 }
 
-module _ {before after : List ℕ} {at : ℕ} {s : List ℕ} {x : Names} {d : Drawing} {first : Bool} {i k : ℕ} (l : Naming before after at s x d first i k) (g : Named s x d) where
+module _ {before after : List ℕ} {at : ℕ} {s : List ℕ} {x : Names} {d : Drawing} {first : Bool} {i k : ℕ} (l : Naming before after at s x d first i k) (g : Named s x d) (room : Roomy d) where
   pub naming-takes : i < d .n → getD (d .nodes) i (node 0 0) .pick ≡ 1 → {new : List ℕ} {r : ℕ}
-      → Put after new k (gap first ++ nameAt s (getD (x .spans) i (span 0 0))) r → Naming before new at s x d false (i + 1) r
-  naming-takes h e p = record { upTo = omega arith; putting = putting-some (putting-same (line-next first (picked-takes g i h e)) (l .putting)) p }
+      → Put after new k (gap first ++ textAt s (getD (x .spans) i (span 0 0))) r → Naming before new at s x d false (i + 1) r
+  naming-takes h e p = record { upTo = omega arith; putting = putting-some (putting-same (line-next first (picked-takes g room i h e)) (l .putting)) p }
 
   pub naming-skips : i < d .n → (getD (d .nodes) i (node 0 0) .pick ≡ 1 → ⊥) → Naming before after at s x d first (i + 1) k
-  naming-skips h e = record { upTo = omega arith; putting = putting-same (ap (lineFrom first) (picked-skips g i h e)) (l .putting) }
+  naming-skips h e = record { upTo = omega arith; putting = putting-same (ap (lineFrom first) (picked-skips g room i h e)) (l .putting) }
 
   pub naming-end : d .n ≤ i → {new : List ℕ} {r : ℕ} → Put after new k (10 ∷ []) r → Put before new at (line (pickedNames (namesOf s x) (view d .nodes))) r
   naming-end h p = let e = g .each in putting-last (putting-same (line-end first (picked-none s x d i (omega arith))) (l .putting)) p

@@ -7,6 +7,7 @@ use mathlib.Core.Bool.{cond}
 use mathlib.Core.List.{List, [], _∷_, _++_, map, flatMap}
 use lib.Dec.{leb}
 use lib.ListN.{length, drop, replicate}
+use Rattle.answers.specs.Verdict.{Verdict, number, location}
 use Rattle.drawing.specs.declared.Node.{Node}
 use Rattle.drawing.specs.Drawing.{isPicked}
 use Rattle.sheet_text.specs.Text.{bytes, digits}
@@ -27,8 +28,8 @@ unfoldable pub listing : List (List ℕ) → List (List ℕ) → List ℕ
 listing names found = line names ++ flatMap (λ r. line (map digits r)) found
 
 -- "A refusal prints `refused`, number, place on one line"
-unfoldable pub refusal : ℕ → ℕ → List ℕ
-refusal n p = line (bytes "refused" ∷ digits n ∷ digits p ∷ [])
+unfoldable pub refusal : Verdict → List ℕ
+refusal v = line (bytes "refused" ∷ digits (number v) ∷ digits (location v) ∷ [])
 
 -- "One that does not fit gives length 0 and a zeroed slice; otherwise the bytes after the listing are untouched"
 pub record Listed : Type 0 where

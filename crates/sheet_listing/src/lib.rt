@@ -1,18 +1,23 @@
 // The listing of a query's rows, or of a refusal, in a lent slice of bytes. A function that writes takes the place where its text starts, and
 // returns the place after it. Bytes past the end of the slice are left out, and from there on the place stays past the end.
 
-use builder::Drawing;
+use answers::Answer;
+use answers::number_and_place;
+use drawing::Drawing;
 use sheet_text::Names;
+use sheet_text::Span;
 ghost use mathlib.Core.Path.{_≡_};
 ghost use Prim.Native.Nat.{_+_, _<_, _≤_, min};
 ghost use mathlib.Core.List.{[], _∷_, _++_, map};
 ghost use lib.ListN.{length, getD, take, replicate};
 ghost use lib.Seq.{slice};
-ghost use Rattle.builder.specs.Builder.{view};
+ghost use Rattle.limits.specs.Limits.{mostNodes};
+ghost use Rattle.answers.specs.Answers.{verdictOf};
+ghost use Rattle.drawing.specs.Builder.{view};
 ghost use Rattle.sheet_text.specs.Text.{digits};
-ghost use Rattle.sheet_text.specs.inner.Parts.{Inside, span, nameAt, namesOf, Spans};
+ghost use Rattle.sheet_text.specs.inner.Parts.{span, textAt, Inside, namesOf, Spans};
 ghost use Rattle.sheet_listing.specs.Listing.{line, pickedNames, listing, refusal, listedIn, listed};
-ghost use Rattle.sheet_listing.specs.inner.Written.{Put, gap, rowsOf, rowLines, finished};
+ghost use Rattle.sheet_listing.specs.inner.Written.{Put, gap, rowsOf, rowLines, Named, Rowed, finished};
 
 // One byte.
 fn put_byte(out: &mut [u8], at: usize, b: u8) -> usize
@@ -25,14 +30,14 @@ fn put_byte(out: &mut [u8], at: usize, b: u8) -> usize
     out.len() + 1
 }
 
-// The bytes a to e of another slice.
-fn put_text(out: &mut [u8], at: usize, s: &[u8], a: usize, e: usize) -> usize
-    requires { ⌜ Inside (now s) a e ⌝ }
-    ensures { λ r. ⌜ Put (now (out .entry)) (now (out .exit)) at (slice a e (now (s .entry))) r ⌝ }
+// A part of another slice.
+fn put_text(out: &mut [u8], at: usize, s: &[u8], p: Span) -> usize
+    requires { ⌜ Inside (now s) p ⌝ }
+    ensures { λ r. ⌜ Put (now (out .entry)) (now (out .exit)) at (textAt (now (s .entry)) p) r ⌝ }
 {
     let mut k = at;
-    let mut i = a;
-    while i < e {
+    let mut i = p.start;
+    while i < p.end {
         k = put_byte(out, k, s[i]);
         i += 1;
     }
@@ -62,17 +67,17 @@ fn put_gap(out: &mut [u8], at: usize, first: bool) -> usize
 
 // The name with this number, as a field.
 fn put_name(out: &mut [u8], at: usize, sheet: &[u8], names: Names, i: usize, first: bool) -> usize
-    requires { ⌜ Spans (now sheet) names 12 ⌝ ∗ ⌜ i < names .n ⌝ }
-    ensures { λ r. ⌜ Put (now (out .entry)) (now (out .exit)) at (gap first ++ nameAt (now (sheet .entry)) (getD (names .spans) i (span 0 0))) r ⌝ }
+    requires { ⌜ Spans (now sheet) names mostNodes ⌝ ∗ ⌜ i < names .n ⌝ }
+    ensures { λ r. ⌜ Put (now (out .entry)) (now (out .exit)) at (gap first ++ textAt (now (sheet .entry)) (getD (names .spans) i (span 0 0))) r ⌝ }
 {
     let p = names.spans[i];
     let k = put_gap(out, at, first);
-    put_text(out, k, sheet, p.start, p.end)
+    put_text(out, k, sheet, p)
 }
 
 // The line of the picked nodes' names.
 fn put_names(out: &mut [u8], at: usize, sheet: &[u8], names: Names, drawing: Drawing) -> usize
-    requires { ⌜ Spans (now sheet) names 12 ⌝ ∗ ⌜ names .n ≡ drawing .n ⌝ }
+    requires { ⌜ Named (now sheet) names drawing ⌝ }
     ensures { λ r. ⌜ Put (now (out .entry)) (now (out .exit)) at (line (pickedNames (namesOf (now (sheet .entry)) names) (view drawing .nodes))) r ⌝ }
 {
     let n = drawing.n;
@@ -101,7 +106,7 @@ fn put_field(out: &mut [u8], at: usize, n: u32, first: bool) -> usize
 
 // The line of one row, whose words are a to e.
 fn put_row(out: &mut [u8], at: usize, rows: &[u32], a: usize, e: usize) -> usize
-    requires { ⌜ Inside (now rows) a e ⌝ }
+    requires { ⌜ Inside (now rows) (span a e) ⌝ }
     ensures { λ r. ⌜ Put (now (out .entry)) (now (out .exit)) at (line (map digits (slice a e (now (rows .entry))))) r ⌝ }
 {
     let mut end = at;
@@ -126,7 +131,7 @@ fn row_end(i: usize, picks: usize, extent: usize) -> usize
 
 // The lines of the rows.
 fn put_rows(out: &mut [u8], at: usize, rows: &[u32], extent: usize, picks: usize) -> usize
-    requires { ⌜ 1 ≤ picks ⌝ ∗ ⌜ extent ≤ length (now rows) ⌝ }
+    requires { ⌜ Rowed (now rows) extent picks ⌝ }
     ensures { λ r. ⌜ Put (now (out .entry)) (now (out .exit)) at (rowLines (rowsOf picks (take extent (now (rows .entry))))) r ⌝ }
 {
     let mut k = at;
@@ -172,7 +177,7 @@ pub fn write_listing(
     extent: usize,
     picks: usize,
 ) -> usize
-    requires { ⌜ Spans (now sheet) names 12 ⌝ ∗ ⌜ names .n ≡ drawing .n ⌝ ∗ ⌜ 1 ≤ picks ⌝ ∗ ⌜ extent ≤ length (now rows) ⌝ }
+    requires { ⌜ Named (now sheet) names drawing ⌝ ∗ ⌜ Rowed (now rows) extent picks ⌝ }
     ensures { λ r. ⌜ listed r (now (out .exit))
         ≡ listedIn (listing (pickedNames (namesOf (now (sheet .entry)) names) (view drawing .nodes)) (rowsOf picks (take extent (now (rows .entry))))) (now (out .entry)) ⌝ }
 {
@@ -182,13 +187,14 @@ pub fn write_listing(
 }
 
 // Writes the listing of a refusal, in the same way.
-pub fn write_refusal(out: &mut [u8], number: u32, place: u32) -> usize
-    ensures { λ r. ⌜ listed r (now (out .exit)) ≡ listedIn (refusal number place) (now (out .entry)) ⌝ }
+pub fn write_refusal(out: &mut [u8], answer: Answer) -> usize
+    ensures { λ r. ⌜ listed r (now (out .exit)) ≡ listedIn (refusal (verdictOf answer)) (now (out .entry)) ⌝ }
 {
+    let said = number_and_place(answer);
     let word = b"refused";
-    let k = put_text(out, 0, word, 0, 7);
-    let n = put_field(out, k, number, false);
-    let p = put_field(out, n, place, false);
+    let k = put_text(out, 0, word, Span { start: 0, end: 7 });
+    let n = put_field(out, k, said.0, false);
+    let p = put_field(out, n, said.1, false);
     let end = put_byte(out, p, 10);
     finish(out, end)
 }

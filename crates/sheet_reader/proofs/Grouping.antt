@@ -2,21 +2,26 @@
 --
 -- In order: the lines from one on; those of a table; the numbers from one on; the tables from one on.
 -- Assumes nothing.
-use mathlib.Core.Path.{_≡_}
+use mathlib.Core.Path.{_≡_, _∙_}
 use mathlib.Core.List.{List, [], _∷_, map}
 use Prim.Native.Nat.{ℕ, suc, _+_, _*_, _-_, _<_, _≤_}
 use native.Mathlib.Omega.{arith}
 use borrow.Author.Tests.{eq-eqb, ne-eqb}
 use lib.ListN.{length, getD, take, drop}
-use Rattle.tables.specs.declared.Pair.{Pair}
 use Rattle.tables.specs.Lists.{keep, count, below}
-use Rattle.drawing.proofs.Words.{three-words}
+use Rattle.tables.specs.Order.{Table, pair}
+use Rattle.drawing.proofs.Encoding.{left-next}
 use Rattle.sheet_lines.specs.Reading.{Entry}
 use Rattle.sheet_lines.specs.inner.State.{entry, entriesOf, entries}
-use Rattle.sheet_reader.specs.Sheet.{linesOf}
-use Rattle.sheet_reader.specs.inner.Answers.{grouped}
+use Rattle.sheet_reader.specs.Sheet.{linesOf, grouped}
 
 -- ---- the lines from one on
+
+three-words : (ws : List ℕ) (j : ℕ) → j + 2 < length ws → drop j ws ≡ getD ws j 0 ∷ getD ws (j + 1) 0 ∷ getD ws (j + 2) 0 ∷ drop (j + 3) ws
+three-words ws j h =
+    let z : j + 1 + 1 ≡ j + 2 = omega arith in
+    let y : j + 2 + 1 ≡ j + 3 = omega arith in
+    left-next ws j 0 (omega arith) ∙ rw (left-next ws (j + 1) 0 (omega arith), z, left-next ws (j + 2) 0 h, y)
 
 pub entriesFrom : List ℕ → ℕ → ℕ → List Entry
 entriesFrom ws n i = entriesOf (take (3 * (n - i)) (drop (3 * i) ws))
@@ -49,7 +54,7 @@ module _ (k : ℕ) (x : Entry) (xs : List Entry) where
   line-out d = rw (ne-eqb (x .table) k d)
 
 -- the lines of table k, from line i on
-pub linesFrom : List ℕ → ℕ → ℕ → ℕ → List Pair
+pub linesFrom : List ℕ → ℕ → ℕ → ℕ → Table
 linesFrom ws n k i = linesOf k (entriesFrom ws n i)
 
 module _ (ws : List ℕ) (n : ℕ) (room : 3 * n ≤ length ws) (k : ℕ) where
@@ -58,7 +63,7 @@ module _ (ws : List ℕ) (n : ℕ) (room : 3 * n ≤ length ws) (k : ℕ) where
   lines-all = rw (entries-all ws n room)
 
   pub lines-in : (i : ℕ) → i < n → getD ws (3 * i) 0 ≡ k →
-      linesFrom ws n k i ≡ record { left = getD ws (3 * i + 1) 0; right = getD ws (3 * i + 2) 0 } ∷ linesFrom ws n k (i + 1)
+      linesFrom ws n k i ≡ pair (getD ws (3 * i + 1) 0) (getD ws (3 * i + 2) 0) ∷ linesFrom ws n k (i + 1)
   unfolding linesFrom
   lines-in i h e = rw (entries-more ws n room i h) (line-in k _ _ e)
 
@@ -72,7 +77,7 @@ module _ (ws : List ℕ) (n : ℕ) (room : 3 * n ≤ length ws) (k : ℕ) where
 
 -- ---- the tables from one on
 
-pub tablesFrom : List Entry → ℕ → ℕ → List (List Pair)
+pub tablesFrom : List Entry → ℕ → ℕ → List Table
 tablesFrom es n k = map (λ j. linesOf j es) (count k (n - k))
 
 module _ (es : List Entry) (n : ℕ) where

@@ -1,5 +1,4 @@
 mod Lines
-mod Writing
 mod Grouping
 mod Sizes
 pub mod Words

@@ -1,8 +1,8 @@
 -- Lines: the walk over all lines of a sheet. Reading the rest from here, in the state that was reached, is reading the sheet.
 --
--- In order: before the first line; a line that can be read; a breach; after the last line.
+-- In order: what an end of the walk gives; before the first line; a line that can be read; a breach; after the last line.
 -- Assumes nothing.
-use mathlib.Core.Path.{_≡_, refl, _∙_}
+use mathlib.Core.Path.{_≡_, refl, _∙_, sym}
 use mathlib.Core.Bool.{true, false, _&&_}
 use mathlib.Core.List.{List}
 use Prim.Native.Nat.{ℕ, _+_, _<_, _≤_}
@@ -10,30 +10,34 @@ use native.Mathlib.Omega.{arith}
 use lib.Dec.{eqb}
 use lib.ListN.{length}
 use lib.Seq.{slice, take-length}
+use Rattle.limits.specs.Limits.{mostClasses, mostLabels, mostNodes, mostBytes}
+use Rattle.answers.specs.Answers.{verdictOf}
+use Rattle.answers.specs.declared.Answer.the-variants.{Accepted, Breach}
 use Rattle.tables.proofs.Parts.{slice-none, slice-next}
-use Rattle.builder.specs.Builder.{emptyDrawing}
-use Rattle.builder.proofs.Builder.{view-empty, roomy-empty}
+use Rattle.drawing.specs.Builder.{emptyDrawing}
+use Rattle.drawing.proofs.Builder.{view-empty}
 use Rattle.sheet_text.specs.Text.{split}
-use Rattle.sheet_text.specs.inner.Parts.{Cut, noNames}
+use Rattle.sheet_text.specs.inner.Parts.{span, Cut, noNames}
 use Rattle.sheet_text.proofs.Spans.{names-none, spans-none}
 use Rattle.sheet_lines.specs.declared.State.{State}
 use Rattle.sheet_lines.specs.declared.Step.{Step}
-use Rattle.sheet_reader.specs.declared.Found.the-variants.{Whole, Breach}
 use Rattle.sheet_lines.specs.Reading.{nothing, allow, readLine}
-use Rattle.sheet_lines.specs.inner.State.{entriesOf, entries, tablesRead, viewOf, mostBytes, Fine, Ready, LineRead}
-use Rattle.sheet_reader.specs.inner.Answers.{noState, outcomeOf, LinesRead}
+use Rattle.sheet_lines.specs.inner.State.{entriesOf, entries, tablesRead, viewOf, Fine, Ready, LineRead}
 use Rattle.sheet_lines.proofs.Steps.{fine-later}
-use Rattle.sheet_reader.specs.Sheet.{finish, continue, endsAt, readLines}
+use Rattle.sheet_reader.specs.Sheet.{read, breach, finish, continue, endsAt, readLines, readSheet}
+use Rattle.sheet_reader.specs.inner.Answers.{noState, verdictIn, mostLines, Scanned}
+use Rattle.sheet_reader.proofs.Words.{sheet-long, sheet-short}
 
--- line number `at` starts at place a
-pub record Going (s ws₀ vs₀ ws vs : List ℕ) (at a : ℕ) (x : State) : Type 0 where
-  pub upTo : a ≤ length s
-  pub early : at ≤ a + 1
-  pub fine : Fine s a x
-  pub classSize : length ws ≡ length ws₀
-  pub labelSize : length vs ≡ length vs₀
-  pub rest : readLines at (viewOf s ws vs x) (split 10 (slice a (length s) s) .first) (split 10 (slice a (length s) s) .rest)
-      ≡ readLines 1 nothing (split 10 s .first) (split 10 s .rest)
+-- ---- an end
+
+module _ {s ws vs : List ℕ} {x : State} (f : Fine s (length s + 1) x) (few : x .classes .lines + x .labels .lines ≤ mostLines) where
+  broken : {at : ℕ} → breach at ≡ readSheet s → Scanned s ws vs (record { answer = Breach at; state = x })
+  unfolding verdictOf verdictIn
+  broken e = record { verdict = rw (← e); shown = λ h. cc; fine = f; few = few }
+
+  whole : read (viewOf s ws vs x) ≡ readSheet s → Scanned s ws vs (record { answer = Accepted; state = x })
+  unfolding verdictOf verdictIn
+  whole e = record { verdict = rw (← e); shown = λ h. sym e; fine = f; few = few }
 
 -- ---- before the first line
 
@@ -45,59 +49,70 @@ empty-drawn : emptyDrawing .n ≡ noNames .n
 unfolding emptyDrawing noNames
 empty-drawn = refl
 
-empty-edges : emptyDrawing .e ≤ 24
-unfolding emptyDrawing
-empty-edges = omega arith
-
 fine-nothing : (s : List ℕ) → Fine s 0 noState
 unfolding noState
 fine-nothing s = record {
   section = omega arith;
-  classes = spans-none s 32;
-  labels = spans-none s 64;
-  nodes = spans-none s 12;
+  classes = spans-none s mostClasses;
+  labels = spans-none s mostLabels;
+  nodes = spans-none s mostNodes;
   drawn = empty-drawn;
-  nodeRoom = roomy-empty .nodes;
-  edgeRoom = roomy-empty .edges;
-  fewEdges = empty-edges;
   lines = omega arith;
 }
 
-pub lines-start : (s ws vs : List ℕ) → Going s ws vs ws vs 1 0 noState
-lines-start s ws vs = record {
+pub too-long : (s ws vs : List ℕ) → mostBytes < length s → Scanned s ws vs (record { answer = Breach 0; state = noState })
+unfolding noState
+too-long s ws vs h = broken (fine-later (fine-nothing s) (omega arith)) (omega arith) (sym (sheet-long s h))
+
+-- line number `at` starts at place a
+pub record Going (s ws₀ vs₀ ws vs : List ℕ) (at a : ℕ) (x : State) : Type 0 where
+  pub short : length s ≤ mostBytes
+  pub upTo : a ≤ length s
+  pub early : at ≤ a + 1
+  pub fine : Fine s a x
+  pub classSize : length ws ≡ length ws₀
+  pub labelSize : length vs ≡ length vs₀
+  pub rest : readLines at (viewOf s ws vs x) (split 10 (slice a (length s) s) .first) (split 10 (slice a (length s) s) .rest) ≡ readSheet s
+
+pub lines-start : (s ws vs : List ℕ) → length s ≤ mostBytes → Going s ws vs ws vs 1 0 noState
+lines-start s ws vs h = record {
+  short = h;
   upTo = omega arith;
   early = omega arith;
   fine = fine-nothing s;
   classSize = refl;
   labelSize = refl;
-  rest = rw (shows-nothing s ws vs, take-length s);
+  rest = rw (shows-nothing s ws vs, take-length s, sheet-short s h);
 }
 
 -- ---- a line
 
 module _ {s ws₀ vs₀ ws vs : List ℕ} {at a : ℕ} {x : State} (g : Going s ws₀ vs₀ ws vs at a x) where
-  pub line-ready : {e : ℕ} → Cut s a (length s) 10 e → length s ≤ mostBytes → Ready s a e x
-  line-ready c h = record { inside = record { ordered = c .from; ends = c .upTo }; short = h; fine = g .fine }
+  few-lines : x .classes .lines + x .labels .lines ≤ mostLines
+  few-lines = omega (arith, g .fine .lines, g .upTo, g .short)
+
+  later : Fine s (length s + 1) x
+  later = fine-later (g .fine) (omega (arith, g .upTo))
+
+  pub line-ready : {e : ℕ} → Cut s a (length s) 10 e → Ready s (span a e) x
+  line-ready c = record { inside = record { ordered = c .from; ends = c .upTo }; short = g .short; fine = g .fine }
 
   -- a last line without its line feed
-  pub unended : {e : ℕ} → a < length s → Cut s a (length s) 10 e → length s ≤ e →
-      LinesRead s ws vs (record { found = Breach at; state = x }) (readLines 1 nothing (split 10 s .first) (split 10 s .rest))
-  unfolding outcomeOf readLines endsAt
-  unended {e} h c l = record {
-    answer = rw (c .last l, slice-next s a (length s) h (omega arith)) at (g .rest);
-    fine = fine-later (g .fine) (omega (arith, g .upTo));
-  }
+  pub unended : {e : ℕ} → a < length s → Cut s a (length s) 10 e → length s ≤ e → Scanned s ws vs (record { answer = Breach at; state = x })
+  unfolding readLines endsAt
+  unended h c l = broken later few-lines (rw (c .last l, slice-next s a (length s) h (omega arith)) at (g .rest))
 
   module _ {e : ℕ} (c : Cut s a (length s) 10 e) (l : e < length s) {ws′ vs′ : List ℕ} {r : Step}
-      (d : LineRead s ws ws′ vs vs′ e x r (λ v. readLine v (slice a e s))) where
+      (d : LineRead s ws ws′ vs vs′ (span a e) x r (λ v. readLine v (slice a e s))) where
     one-line : continue at (allow (r .read) (viewOf s ws′ vs′ (r .state))) (λ v. readLines (at + 1) v (split 10 (slice (e + 1) (length s) s) .first) (split 10 (slice (e + 1) (length s) s) .rest))
-        ≡ readLines 1 nothing (split 10 s .first) (split 10 s .rest)
+        ≡ readSheet s
     unfolding readLines
     one-line = rw (d .answer) (rw (c .more l) at (g .rest))
 
     pub line-passes : r .read ≡ true → Going s ws₀ vs₀ ws′ vs′ (at + 1) (e + 1) (r .state)
     unfolding allow continue
     line-passes t = record {
+      short = g .short;
       upTo = omega arith;
       early = omega (arith, g .early, c .from);
       fine = d .fine;
@@ -106,23 +121,20 @@ module _ {s ws₀ vs₀ ws vs : List ℕ} {at a : ℕ} {x : State} (g : Going s 
       rest = rw t at one-line;
     }
 
-    pub line-breaks : r .read ≡ false →
-        LinesRead s ws′ vs′ (record { found = Breach at; state = r .state }) (readLines 1 nothing (split 10 s .first) (split 10 s .rest))
-    unfolding allow continue outcomeOf
-    line-breaks t = record { answer = rw t at one-line; fine = fine-later (d .fine) (omega arith) }
+    pub line-breaks : r .read ≡ false → Scanned s ws′ vs′ (record { answer = Breach at; state = r .state })
+    unfolding allow continue
+    line-breaks t = broken (fine-later (d .fine) (omega arith)) (omega (arith, d .fine .lines, g .short)) (rw t at one-line)
 
   -- ---- after the last line
 
-  at-end : length s ≤ a → finish at (viewOf s ws vs x) ≡ readLines 1 nothing (split 10 s .first) (split 10 s .rest)
+  at-end : length s ≤ a → finish at (viewOf s ws vs x) ≡ readSheet s
   unfolding readLines endsAt split
   at-end h = rw (slice-none s a (length s) h) at (g .rest)
 
-  pub all-read : length s ≤ a → (eqb (x .section) 3 && x .opened) ≡ true →
-      LinesRead s ws vs (record { found = Whole; state = x }) (readLines 1 nothing (split 10 s .first) (split 10 s .rest))
-  unfolding outcomeOf finish viewOf
-  all-read h t = record { answer = rw t at (at-end h); fine = fine-later (g .fine) (omega (arith, g .upTo)) }
+  pub all-read : length s ≤ a → (eqb (x .section) 3 && x .opened) ≡ true → Scanned s ws vs (record { answer = Accepted; state = x })
+  unfolding finish viewOf
+  all-read h t = whole later few-lines (rw t at (at-end h))
 
-  pub ends-early : length s ≤ a → (eqb (x .section) 3 && x .opened) ≡ false →
-      LinesRead s ws vs (record { found = Breach at; state = x }) (readLines 1 nothing (split 10 s .first) (split 10 s .rest))
-  unfolding outcomeOf finish viewOf
-  ends-early h t = record { answer = rw t at (at-end h); fine = fine-later (g .fine) (omega (arith, g .upTo)) }
+  pub ends-early : length s ≤ a → (eqb (x .section) 3 && x .opened) ≡ false → Scanned s ws vs (record { answer = Breach at; state = x })
+  unfolding finish viewOf
+  ends-early h t = broken later few-lines (rw t at (at-end h))

@@ -1,122 +1,163 @@
--- Sizes: how many words the tables of some lines have. Each line is in at most one table.
+-- Sizes: how many words the feed of some lines has. Each line is in at most one table.
 --
--- In order: sums; a line in a table; the lines in all tables; the words.
+-- In order: the lines in all tables; the parts of a feed, and their size; the feed, part by part.
 -- Assumes nothing.
-use mathlib.Core.Path.{_≡_, refl}
-use mathlib.Core.Bool.{cond}
-use mathlib.Core.List.{List, [], _∷_, map, flatMap}
-use Prim.Native.Nat.{ℕ, zero, suc, _+_, _*_, _<_, _≤_}
+use mathlib.Core.Path.{_≡_, refl, _∙_, sym, ap}
+use mathlib.Core.List.{List, [], _∷_, _++_, map, map-append, append-assoc}
+use Prim.Native.Nat.{ℕ, zero, suc, _+_, _*_, _/_, _<_, _≤_}
 use native.Mathlib.Omega.{arith}
-use native.Mathlib.Nat.{mul-suc}
 use native.Mathlib.Decide.{ℕ-discrete}
-use borrow.Author.Tests.{eq-eqb, ne-eqb}
-use lib.Dec.{eqb}
-use lib.ListN.{length, length-append}
-use Rattle.tables.specs.declared.Pair.{Pair}
+use lib.ListN.{length, take, length-append, length-map}
+use lib.Seq.{length-take-le}
 use Rattle.tables.specs.Lists.{keep, count, below, total}
+use Rattle.tables.specs.Order.{Table}
+use Rattle.tables.specs.Slices.{tableWords, tablesWords}
+use Rattle.tables.specs.inner.Words.{Put}
+use Rattle.tables.proofs.Slices.{length-tablesWords}
+use Rattle.tables.proofs.Putting.{put-size, put-then, put-as}
+use Rattle.feed.specs.Feed.{feedWords}
+use Rattle.sheet_lines.specs.declared.Tables.{Tables}
 use Rattle.sheet_lines.specs.Reading.{Entry}
-use Rattle.sheet_reader.specs.Sheet.{linesOf}
-use Rattle.sheet_reader.specs.inner.Answers.{pairWords, grouped}
+use Rattle.sheet_lines.specs.inner.State.{entriesOf, entries}
+use Rattle.sheet_reader.specs.Sheet.{linesOf, grouped}
+use Rattle.sheet_reader.specs.inner.Answers.{tablesIn, Lines, feedRoom, Feedable}
 use Rattle.sheet_reader.proofs.Grouping.{line-in, line-out}
-
--- ---- sums
-
-total-sum : (f g : ℕ → ℕ) (ks : List ℕ) → total (map (λ k. f k + g k) ks) ≡ total (map f ks) + total (map g ks)
-unfolding total
-total-sum f g [] = omega arith
-total-sum f g (k ∷ ks) = let h = total-sum f g ks in omega arith
-
-total-same : (f g : ℕ → ℕ) → ((k : ℕ) → f k ≡ g k) → (ks : List ℕ) → total (map f ks) ≡ total (map g ks)
-unfolding total
-total-same f g e [] = refl
-total-same f g e (k ∷ ks) = let h = total-same f g e ks in let d = e k in omega arith
-
--- ---- a line in a table
-
-hit : ℕ → ℕ → ℕ
-hit t k = cond (eqb t k) 1 0
-
-hit-same : (t k : ℕ) → t ≡ k → hit t k ≡ 1
-unfolding hit
-hit-same t k e = rw (eq-eqb t k e)
-
-hit-other : (t k : ℕ) → (t ≡ k → ⊥) → hit t k ≡ 0
-unfolding hit
-hit-other t k d = rw (ne-eqb t k d)
-
-lines-size : (x : Entry) (xs : List Entry) (k : ℕ) → length (linesOf k (x ∷ xs)) ≡ hit (x .table) k + length (linesOf k xs)
-lines-size x xs k = step (ℕ-discrete (x .table) k)
-  where
-    step : Dec (x .table ≡ k) → length (linesOf k (x ∷ xs)) ≡ hit (x .table) k + length (linesOf k xs)
-    step (yes e) = rw (line-in k x xs e, hit-same (x .table) k e) (omega arith)
-    step (no d) = rw (line-out k x xs d, hit-other (x .table) k d) (omega arith)
-
-hits-past : (t i n : ℕ) → t < i → total (map (hit t) (count i n)) ≡ 0
-unfolding total count
-hits-past t i zero h = refl
-hits-past t i (suc n) h =
-    let r = hits-past t (i + 1) n (omega arith) in
-    let z : hit t i ≡ 0 = hit-other t i (λ e. omega arith) in
-    omega arith
-
-hits-once : (t i n : ℕ) → total (map (hit t) (count i n)) ≤ 1
-unfolding total count
-hits-once t i zero = omega arith
-hits-once t i (suc n) = step (ℕ-discrete t i) (hits-once t (i + 1) n)
-  where
-    step : Dec (t ≡ i) → total (map (hit t) (count (i + 1) n)) ≤ 1 → hit t i + total (map (hit t) (count (i + 1) n)) ≤ 1
-    step (yes e) r = let p = hits-past t (i + 1) n (omega arith) in let z = hit-same t i e in omega arith
-    step (no d) r = let z = hit-other t i d in omega arith
 
 -- ---- the lines in all tables
 
 sizes : List Entry → List ℕ → ℕ
-sizes es ks = total (map (λ k. length (linesOf k es)) ks)
+sizes es ks = total (map length (map (λ k. linesOf k es) ks))
 
-sizes-none : (ks : List ℕ) → sizes [] ks ≡ 0
+-- a line of a table before these
+line-past : (x : Entry) (es : List Entry) (i n : ℕ) → x .table < i → sizes (x ∷ es) (count i n) ≡ sizes es (count i n)
+unfolding sizes total count
+line-past x es i zero h = refl
+line-past x es i (suc n) h =
+    let rest = line-past x es (i + 1) n (omega arith) in
+    let same = ap length (line-out i x es (λ e. omega arith)) in
+    omega arith
+
+line-once : (x : Entry) (es : List Entry) (i n : ℕ) → sizes (x ∷ es) (count i n) ≤ suc (sizes es (count i n))
+unfolding sizes total count
+line-once x es i zero = omega arith
+line-once x es i (suc n) = by (ℕ-discrete (x .table) i) (line-once x es (i + 1) n)
+  where
+    by : Dec (x .table ≡ i) → sizes (x ∷ es) (count (i + 1) n) ≤ suc (sizes es (count (i + 1) n))
+        → length (linesOf i (x ∷ es)) + sizes (x ∷ es) (count (i + 1) n) ≤ suc (length (linesOf i es) + sizes es (count (i + 1) n))
+    by (yes e) r = let more = ap length (line-in i x es e) in let rest = line-past x es (i + 1) n (omega arith) in omega arith
+    by (no d) r = let same = ap length (line-out i x es d) in omega arith
+
+none-sized : (ks : List ℕ) → sizes [] ks ≡ 0
 unfolding sizes total linesOf keep
-sizes-none [] = refl
-sizes-none (k ∷ ks) = let h = sizes-none ks in omega arith
+none-sized [] = refl
+none-sized (k ∷ ks) = let h = none-sized ks in omega arith
 
 lines-bound : (es : List Entry) (i n : ℕ) → sizes es (count i n) ≤ length es
-unfolding sizes
-lines-bound [] i n = let z = sizes-none (count i n) in omega arith
-lines-bound (x ∷ es) i n =
-    let e = total-same (λ k. length (linesOf k (x ∷ es))) (λ k. hit (x .table) k + length (linesOf k es)) (lines-size x es) (count i n) in
-    let s = total-sum (hit (x .table)) (λ k. length (linesOf k es)) (count i n) in
-    let o = hits-once (x .table) i n in
-    let h = lines-bound es i n in
-    omega arith
+lines-bound [] i n = let z = none-sized (count i n) in omega arith
+lines-bound (x ∷ es) i n = let o = line-once x es i n in let h = lines-bound es i n in omega arith
 
--- ---- the words
-
--- k words an element
-pub length-words : {A : Type 0} (f : A → List ℕ) (k : ℕ) → ((x : A) → length (f x) ≡ k) → (xs : List A) → length (flatMap f xs) ≡ k * length xs
-unfolding flatMap
-length-words f k h [] = omega arith
-length-words f k h (x ∷ xs) =
-    let r = length-words f k h xs in
-    let a = length-append (f x) (flatMap f xs) in
-    let m = mul-suc k (length xs) in
-    omega (arith, h x)
-
-length-pairs : (ps : List Pair) → length (flatMap pairWords ps) ≡ 2 * length ps
-length-pairs = length-words pairWords 2 (λ p. refl)
-
-length-tables : (es : List Entry) (ks : List ℕ) → length (flatMap (flatMap pairWords) (map (λ k. linesOf k es) ks)) ≡ 2 * sizes es ks
-unfolding flatMap sizes total
-length-tables es [] = omega arith
-length-tables es (k ∷ ks) =
-    let h = length-tables es ks in
-    let p = length-pairs (linesOf k es) in
-    let a = length-append (flatMap pairWords (linesOf k es)) (flatMap (flatMap pairWords) (map (λ k. linesOf k es) ks)) in
-    omega arith
-
-pub tables-bound : (es : List Entry) (n : ℕ) → length (flatMap (flatMap pairWords) (grouped es n)) ≤ 2 * length es
-unfolding grouped below
-tables-bound es n = let l = length-tables es (count 0 n) in let b = lines-bound es 0 n in omega arith
-
-pub length-count : (i n : ℕ) → length (count i n) ≡ n
+length-count : (i n : ℕ) → length (count i n) ≡ n
 unfolding count
 length-count i zero = refl
 length-count i (suc n) = rw (length-count (i + 1) n)
+
+pub length-grouped : (es : List Entry) (n : ℕ) → length (grouped es n) ≡ n
+unfolding grouped below
+length-grouped es n = length-map (below n) (λ k. linesOf k es) ∙ length-count 0 n
+
+pub tables-bound : (es : List Entry) (n : ℕ) → length (tablesWords (grouped es n)) ≤ 2 * length es
+unfolding grouped below sizes
+tables-bound es n = let l = length-tablesWords (grouped es n) in let b = lines-bound es 0 n in omega arith
+
+entries-length : (ws : List ℕ) → length (entriesOf ws) ≡ length ws / 3
+unfolding entriesOf
+entries-length [] = omega arith
+entries-length (k ∷ []) = omega arith
+entries-length (k ∷ l ∷ []) = omega arith
+entries-length (k ∷ l ∷ r ∷ ws) = let h = entries-length ws in omega arith
+
+length-entries : (ws : List ℕ) (n : ℕ) → 3 * n ≤ length ws → length (entries ws n) ≡ n
+unfolding entries
+length-entries ws n h = let l = length-take-le (3 * n) ws h in rw (entries-length (take (3 * n) ws), l) (omega arith)
+
+-- ---- the parts of a feed
+
+tables-joined : (cs ls : List Table) → tablesWords (cs ++ ls) ≡ tablesWords cs ++ tablesWords ls
+unfolding tablesWords
+tables-joined [] ls = refl
+tables-joined (t ∷ cs) ls = rw (tables-joined cs ls) (sym (append-assoc (tableWords t) (tablesWords cs) (tablesWords ls)))
+
+pub feed-parts : (cs ls : List Table) → (length cs ∷ length ls ∷ []) ++ (map length cs ++ (map length ls ++ (tablesWords cs ++ tablesWords ls))) ≡ feedWords cs ls
+unfolding feedWords
+feed-parts cs ls = simp (map-append, tables-joined, append-assoc)
+
+pub feed-size : {words ws vs : List ℕ} {c l : Tables} → Feedable words ws vs c l → length (feedWords (tablesIn ws c) (tablesIn vs l)) ≤ feedRoom
+unfolding feedWords tablesIn
+feed-size {ws = ws} {vs = vs} {c = c} {l = l} g =
+    let cs = entries ws (c .lines) in
+    let ls = entries vs (l .lines) in
+    let m = length-entries ws (c .lines) (omega (arith, g .few, g .held .classRoom)) in
+    let n = length-entries vs (l .lines) (omega (arith, g .few, g .held .labelRoom)) in
+    let a = tables-bound cs (c .names .n) in
+    let b = tables-bound ls (l .names .n) in
+    let t = grouped cs (c .names .n) ++ grouped ls (l .names .n) in
+    let j = ap length (tables-joined (grouped cs (c .names .n)) (grouped ls (l .names .n))) ∙ length-append (tablesWords (grouped cs (c .names .n))) (tablesWords (grouped ls (l .names .n))) in
+    let k = length-map t length ∙ length-append (grouped cs (c .names .n)) (grouped ls (l .names .n)) in
+    let p = length-append (map length t) (tablesWords t) in
+    omega (arith, g .few, g .classes, g .labels, length-grouped cs (c .names .n), length-grouped ls (l .names .n))
+
+-- ---- the feed, part by part: there is room for each behind the one before it
+
+room-first : (at : ℕ) {n : ℕ} (xs ys : List ℕ) → at + length (xs ++ ys) ≤ n → at + length xs ≤ n
+room-first at xs ys h = let l = length-append xs ys in omega arith
+
+room-rest : {ws vs : List ℕ} {at r : ℕ} {xs : List ℕ} → Put ws vs at xs r → (ys : List ℕ) → at + length (xs ++ ys) ≤ length ws → r + length ys ≤ length vs
+room-rest {xs = xs} w ys h = let l = length-append xs ys in omega (arith, w .next, put-size w)
+
+module _ {words ws vs : List ℕ} {c l : Tables} (g : Feedable words ws vs c l) where
+  abbrev cs : List Table
+  cs = tablesIn ws c
+
+  abbrev ls : List Table
+  ls = tablesIn vs l
+
+  pub class-lines : Lines ws (c .lines)
+  class-lines = record { inside = omega (arith, g .few, g .held .classRoom); few = omega (arith, g .few) }
+
+  pub label-lines : Lines vs (l .lines)
+  label-lines = record { inside = omega (arith, g .few, g .held .labelRoom); few = omega (arith, g .few) }
+
+  module _ {words₁ : List ℕ} {r₁ : ℕ} (p₁ : Put words words₁ 0 (c .names .n ∷ l .names .n ∷ []) r₁) where
+    head : Put words words₁ 0 (length cs ∷ length ls ∷ []) r₁
+    unfolding tablesIn
+    head = simp length-grouped p₁
+
+    room₁ : r₁ + length (map length cs ++ (map length ls ++ (tablesWords cs ++ tablesWords ls))) ≤ length words₁
+    room₁ =
+        let e = ap length (feed-parts cs ls) in
+        let s = feed-size g in
+        room-rest head (map length cs ++ (map length ls ++ (tablesWords cs ++ tablesWords ls))) (omega (arith, g .room))
+
+    pub class-counts : r₁ + length (map length cs) ≤ length words₁
+    class-counts = room-first r₁ (map length cs) _ room₁
+
+    module _ {words₂ : List ℕ} {r₂ : ℕ} (p₂ : Put words₁ words₂ r₁ (map length cs) r₂) where
+      room₂ : r₂ + length (map length ls ++ (tablesWords cs ++ tablesWords ls)) ≤ length words₂
+      room₂ = room-rest p₂ _ room₁
+
+      pub label-counts : r₂ + length (map length ls) ≤ length words₂
+      label-counts = room-first r₂ (map length ls) _ room₂
+
+      module _ {words₃ : List ℕ} {r₃ : ℕ} (p₃ : Put words₂ words₃ r₂ (map length ls) r₃) where
+        room₃ : r₃ + length (tablesWords cs ++ tablesWords ls) ≤ length words₃
+        room₃ = room-rest p₃ _ room₂
+
+        pub class-pairs : r₃ + length (tablesWords cs) ≤ length words₃
+        class-pairs = room-first r₃ (tablesWords cs) _ room₃
+
+        module _ {words₄ : List ℕ} {r₄ : ℕ} (p₄ : Put words₃ words₄ r₃ (tablesWords cs) r₄) where
+          pub label-pairs : r₄ + length (tablesWords ls) ≤ length words₄
+          label-pairs = room-rest p₄ _ room₃
+
+          pub feed-put : {words₅ : List ℕ} {r₅ : ℕ} → Put words₄ words₅ r₄ (tablesWords ls) r₅ → Put words words₅ 0 (feedWords cs ls) r₅
+          feed-put p₅ = put-as (feed-parts cs ls) (put-then head (put-then p₂ (put-then p₃ (put-then p₄ p₅))))

@@ -1,15 +1,17 @@
--- Sheet: the words of a feed and of a drawing that a sheet gives, or 14 with its line (document 01, 'The sheet').
+-- Sheet: what a sheet gives, or 14 with its line (document 01, 'The sheet').
 --
--- In order: all lines; the words.
+-- In order: all lines; the words of the feed.
 -- Assumes nothing.
 use Prim.Native.Nat.{ℕ, _+_}
 use mathlib.Core.Bool.{_&&_, cond}
-use mathlib.Core.List.{List, [], _∷_, _++_, map, flatMap}
+use mathlib.Core.List.{List, [], _∷_, map}
 use mathlib.Core.Option.{Option, none, some}
 use lib.Dec.{eqb, leb}
 use lib.ListN.{length}
+use Rattle.limits.specs.Limits.{mostBytes}
 use Rattle.tables.specs.Lists.{keep, below}
-use Rattle.tables.specs.declared.Pair.{Pair}
+use Rattle.tables.specs.Order.{Table}
+use Rattle.feed.specs.Feed.{feedWords}
 use Rattle.sheet_text.specs.Text.{split}
 use Rattle.sheet_lines.specs.Reading.{Entry, Named, Reading, nothing, readLine}
 
@@ -42,21 +44,20 @@ unfoldable pub readSheet : List ℕ → Outcome
 readSheet sheet =
     let p = split 10 sheet in
     let all = readLines 1 nothing (p .first) (p .rest) in
-    cond (leb (length sheet) 16384) all (breach 0)
+    cond (leb (length sheet) mostBytes) all (breach 0)
 
--- ---- the words
+-- ---- the feed
 
-unfoldable pub linesOf : ℕ → List Entry → List Pair
+-- "lines keep their order within each"
+unfoldable pub linesOf : ℕ → List Entry → Table
 linesOf k lines = map (λ x. x .entry) (keep (λ x. eqb (x .table) k) lines)
 
-unfoldable pub tablesOf : Named → List (List Pair)
-tablesOf t = map (λ k. linesOf k (t .lines)) (below (length (t .names)))
+-- the lines of each of n tables
+unfoldable pub grouped : List Entry → ℕ → List Table
+grouped lines n = map (λ k. linesOf k lines) (below n)
 
-unfoldable pub feedWords : Reading → List ℕ
-feedWords r =
-    let tables = tablesOf (r .classes) ++ tablesOf (r .labels) in
-    length (r .classes .names) ∷ length (r .labels .names) ∷ (map length tables ++ flatMap (flatMap (λ p. p .left ∷ p .right ∷ [])) tables)
+unfoldable pub tablesOf : Named → List Table
+tablesOf t = grouped (t .lines) (length (t .names))
 
-unfoldable pub drawingWords : Reading → List ℕ
-drawingWords r =
-    length (r .nodes) ∷ length (r .edges) ∷ (flatMap (λ v. v .class ∷ v .pick ∷ []) (r .nodes) ++ flatMap (λ e. e .label ∷ e .source ∷ e .target ∷ []) (r .edges))
+unfoldable pub feedOf : Reading → List ℕ
+feedOf r = feedWords (tablesOf (r .classes)) (tablesOf (r .labels))

@@ -1,41 +1,46 @@
-// The reader of a sheet: from bytes to the words of a feed and of a drawing, or the line of the first breach.
+// The reader of a sheet: from bytes to the words of a feed and a drawing, or the line of the first breach.
 
-use builder::Drawing;
+use answers::Answer;
+use answers::accepts;
+use drawing::Drawing;
+use limits::SHEET_BYTES;
+use limits::TABLES;
+use sheet_lines::LINE_WORDS;
 use sheet_lines::State;
 use sheet_lines::Tables;
 use sheet_lines::read_line;
 use sheet_text::Names;
+use sheet_text::Span;
 use sheet_text::cut;
 use sheet_text::no_names;
+use tables::words::put_two;
+use tables::words::put_word;
 ghost use mathlib.Core.Path.{_≡_};
-ghost use mathlib.Core.List.{[], _∷_, map, flatMap};
-ghost use Prim.Native.Nat.{_+_, _*_, _≤_, _<_};
-ghost use lib.ListN.{length, take};
-ghost use Rattle.tables.specs.inner.Words.{Wrote};
-ghost use Rattle.sheet_text.specs.Text.{split};
-ghost use Rattle.sheet_lines.specs.Reading.{nothing};
-ghost use Rattle.sheet_lines.specs.inner.State.{entries, mostBytes, lineWords};
-ghost use Rattle.sheet_reader.specs.Sheet.{readLines, linesOf};
-ghost use Rattle.sheet_reader.specs.inner.Answers.{noState, LinesRead, pairWords, grouped, nodeWords, edgeWords, Drawn, Countable, feedRoom, drawingRoom, feedOf, drawingOf, Answers};
+ghost use mathlib.Core.List.{map};
+ghost use Prim.Native.Nat.{_+_, _≤_};
+ghost use lib.ListN.{length};
+ghost use Rattle.tables.specs.Slices.{tableWords, tablesWords};
+ghost use Rattle.tables.specs.inner.Words.{Put};
+ghost use Rattle.feed.specs.Feed.{feedWords};
+ghost use Rattle.sheet_lines.specs.inner.State.{entries, Held};
+ghost use Rattle.sheet_reader.specs.Sheet.{linesOf};
+ghost use Rattle.sheet_reader.specs.inner.Answers.{noState, Scanned, tablesIn, Lines, Writable, Feedable, Lent, Answers};
 
-// What the lines of a sheet are: all as they should be, or the first breach is at this line.
-pub enum Found {
-    Whole,
-    Breach(u32),
-}
+// The most words of a feed that comes from a sheet: two, the counts of all tables, and two for each line.
+pub const FEED_WORDS: usize = 2 + TABLES + 2 * (LINE_WORDS / 3);
 
-// What the lines are, and the state after those that could be read.
+// Whether all lines are as they should be, or the line of the first breach; and the state after those that could be read.
 pub struct Scan {
-    pub found: Found,
+    pub answer: Answer,
     pub state: State,
 }
 
-// What a sheet gives: how many words its feed and its drawing have, and its node names.
-pub struct SheetWords {
-    pub found: Found,
+// What a sheet gives: how many words its feed has, its node names, and its drawing.
+pub struct SheetRead {
+    pub answer: Answer,
     pub feed: usize,
-    pub drawing: usize,
     pub nodes: Names,
+    pub drawing: Drawing,
 }
 
 // ---- all lines
@@ -57,29 +62,36 @@ fn empty() -> State
     }
 }
 
-// All lines. The last has no line feed behind it and must be empty.
+// All lines, of a sheet that is not too long. The last has no line feed behind it and must be empty.
 fn read_lines(classes: &mut [u32], labels: &mut [u32], s: &[u8]) -> Scan
-    requires { ⌜ length (now s) ≤ mostBytes ⌝ ∗ ⌜ lineWords ≤ length (now classes) ⌝ ∗ ⌜ lineWords ≤ length (now labels) ⌝ }
-    ensures { λ r. ⌜ LinesRead (now (s .entry)) (now (classes .exit)) (now (labels .exit)) r (readLines 1 nothing (split 10 (now (s .entry)) .first) (split 10 (now (s .entry)) .rest)) ⌝ }
+    requires { ⌜ Held (now classes) (now labels) ⌝ }
+    ensures { λ r. ⌜ Scanned (now (s .entry)) (now (classes .exit)) (now (labels .exit)) r ⌝ }
 {
     let n = s.len();
     let mut x = empty();
+    if n > SHEET_BYTES {
+        return Scan {
+            answer: Answer::Breach(0),
+            state: x,
+        };
+    }
     let mut a = 0;
     let mut at: u32 = 1;
     while a < n {
         let e = cut(s, a, n, 10);
         if e == n {
             return Scan {
-                found: Found::Breach(at),
+                answer: Answer::Breach(at),
                 state: x,
             };
         }
-        let step = read_line(classes, labels, s, a, e, x);
+        let line = Span { start: a, end: e };
+        let step = read_line(classes, labels, s, line, x);
         x = step.state;
         a = e + 1;
         if !step.read {
             return Scan {
-                found: Found::Breach(at),
+                answer: Answer::Breach(at),
                 state: x,
             };
         }
@@ -87,48 +99,21 @@ fn read_lines(classes: &mut [u32], labels: &mut [u32], s: &[u8]) -> Scan
     }
     if (x.section == 3) & x.opened {
         return Scan {
-            found: Found::Whole,
+            answer: Answer::Accepted,
             state: x,
         };
     }
     Scan {
-        found: Found::Breach(at),
+        answer: Answer::Breach(at),
         state: x,
     }
 }
 
-// ---- words, one behind the other
-
-// Writes a word, and gives the next place.
-fn put(words: &mut [u32], at: usize, word: u32) -> usize
-    requires { ⌜ at < length (now words) ⌝ }
-    ensures { λ r. ⌜ Wrote (now (words .entry)) (now (words .exit)) at (word ∷ []) r ⌝ }
-{
-    words[at] = word;
-    at + 1
-}
-
-// Writes two words.
-fn put_two(words: &mut [u32], at: usize, x: u32, y: u32) -> usize
-    requires { ⌜ at + 2 ≤ length (now words) ⌝ }
-    ensures { λ r. ⌜ Wrote (now (words .entry)) (now (words .exit)) at (x ∷ y ∷ []) r ⌝ }
-{
-    let next = put(words, at, x);
-    put(words, next, y)
-}
-
-// Writes three words.
-fn put_three(words: &mut [u32], at: usize, x: u32, y: u32, z: u32) -> usize
-    requires { ⌜ at + 3 ≤ length (now words) ⌝ }
-    ensures { λ r. ⌜ Wrote (now (words .entry)) (now (words .exit)) at (x ∷ y ∷ z ∷ []) r ⌝ }
-{
-    let next = put(words, at, x);
-    put_two(words, next, y, z)
-}
+// ---- the feed, from lines that stand in words
 
 // How many of the lines are of table k.
 fn count_lines(rows: &[u32], lines: usize, k: u32) -> u32
-    requires { ⌜ 3 * lines ≤ length (now rows) ⌝ ∗ ⌜ lines ≤ 4096 ⌝ }
+    requires { ⌜ Lines (now rows) lines ⌝ }
     ensures { λ r. ⌜ r ≡ length (linesOf k (entries (now (rows .entry)) lines)) ⌝ }
 {
     let mut n: u32 = 0;
@@ -144,15 +129,15 @@ fn count_lines(rows: &[u32], lines: usize, k: u32) -> u32
 }
 
 // Writes how many lines each of the tables has.
-fn put_counts(words: &mut [u32], at: usize, rows: &[u32], lines: usize, tables: usize) -> usize
-    requires { ⌜ 3 * lines ≤ length (now rows) ⌝ ∗ ⌜ lines ≤ 4096 ⌝ ∗ ⌜ tables ≤ 64 ⌝ ∗ ⌜ at + tables ≤ length (now words) ⌝ }
-    ensures { λ r. ⌜ Wrote (now (words .entry)) (now (words .exit)) at (map length (grouped (entries (now (rows .entry)) lines) tables)) r ⌝ }
+fn put_counts(words: &mut [u32], at: usize, rows: &[u32], t: Tables) -> usize
+    requires { ⌜ Writable (now words) at (now rows) t (map length (tablesIn (now rows) t)) ⌝ }
+    ensures { λ r. ⌜ Put (now (words .entry)) (now (words .exit)) at (map length (tablesIn (now (rows .entry)) t)) r ⌝ }
 {
     let mut out = at;
     let mut k = 0;
-    while k < tables {
-        let n = count_lines(rows, lines, k as u32);
-        out = put(words, out, n);
+    while k < t.names.n {
+        let n = count_lines(rows, t.lines, k as u32);
+        out = put_word(words, out, n);
         k += 1;
     }
     out
@@ -160,8 +145,8 @@ fn put_counts(words: &mut [u32], at: usize, rows: &[u32], lines: usize, tables: 
 
 // Writes the pairs of table k, in the order of the lines.
 fn put_table(words: &mut [u32], at: usize, rows: &[u32], lines: usize, k: u32) -> usize
-    requires { ⌜ 3 * lines ≤ length (now rows) ⌝ ∗ ⌜ at + length (flatMap pairWords (linesOf k (entries (now rows) lines))) ≤ length (now words) ⌝ }
-    ensures { λ r. ⌜ Wrote (now (words .entry)) (now (words .exit)) at (flatMap pairWords (linesOf k (entries (now (rows .entry)) lines))) r ⌝ }
+    requires { ⌜ Lines (now rows) lines ⌝ ∗ ⌜ at + length (tableWords (linesOf k (entries (now rows) lines))) ≤ length (now words) ⌝ }
+    ensures { λ r. ⌜ Put (now (words .entry)) (now (words .exit)) at (tableWords (linesOf k (entries (now (rows .entry)) lines))) r ⌝ }
 {
     let mut out = at;
     let mut i = 0;
@@ -176,120 +161,56 @@ fn put_table(words: &mut [u32], at: usize, rows: &[u32], lines: usize, k: u32) -
 }
 
 // Writes the pairs of each of the tables.
-fn put_tables(words: &mut [u32], at: usize, rows: &[u32], lines: usize, tables: usize) -> usize
-    requires { ⌜ 3 * lines ≤ length (now rows) ⌝ ∗ ⌜ tables ≤ 64 ⌝ ∗ ⌜ at + length (flatMap (flatMap pairWords) (grouped (entries (now rows) lines) tables)) ≤ length (now words) ⌝ }
-    ensures { λ r. ⌜ Wrote (now (words .entry)) (now (words .exit)) at (flatMap (flatMap pairWords) (grouped (entries (now (rows .entry)) lines) tables)) r ⌝ }
+fn put_tables(words: &mut [u32], at: usize, rows: &[u32], t: Tables) -> usize
+    requires { ⌜ Writable (now words) at (now rows) t (tablesWords (tablesIn (now rows) t)) ⌝ }
+    ensures { λ r. ⌜ Put (now (words .entry)) (now (words .exit)) at (tablesWords (tablesIn (now (rows .entry)) t)) r ⌝ }
 {
     let mut out = at;
     let mut k = 0;
-    while k < tables {
-        out = put_table(words, out, rows, lines, k as u32);
+    while k < t.names.n {
+        out = put_table(words, out, rows, t.lines, k as u32);
         k += 1;
     }
     out
 }
 
-// Writes the nodes of a drawing.
-fn put_nodes(words: &mut [u32], at: usize, d: Drawing) -> usize
-    requires { ⌜ Drawn d ⌝ ∗ ⌜ at + 2 * d .n ≤ length (now words) ⌝ }
-    ensures { λ r. ⌜ Wrote (now (words .entry)) (now (words .exit)) at (flatMap nodeWords (take (d .n) (d .nodes))) r ⌝ }
+// Writes the feed of these classes and labels, and gives its length.
+fn put_feed(words: &mut [u32], classes: &[u32], labels: &[u32], c: Tables, l: Tables) -> usize
+    requires { ⌜ Feedable (now words) (now classes) (now labels) c l ⌝ }
+    ensures { λ r. ⌜ Put (now (words .entry)) (now (words .exit)) 0 (feedWords (tablesIn (now (classes .entry)) c) (tablesIn (now (labels .entry)) l)) r ⌝ }
 {
-    let n = d.n;
-    let mut out = at;
-    let mut i = 0;
-    while i < n {
-        let v = d.nodes[i];
-        out = put_two(words, out, v.class, v.pick);
-        i += 1;
-    }
-    out
-}
-
-// Writes the edges of a drawing.
-fn put_edges(words: &mut [u32], at: usize, d: Drawing) -> usize
-    requires { ⌜ Drawn d ⌝ ∗ ⌜ at + 3 * d .e ≤ length (now words) ⌝ }
-    ensures { λ r. ⌜ Wrote (now (words .entry)) (now (words .exit)) at (flatMap edgeWords (take (d .e) (d .edges))) r ⌝ }
-{
-    let n = d.e;
-    let mut out = at;
-    let mut i = 0;
-    while i < n {
-        let v = d.edges[i];
-        out = put_three(words, out, v.label, v.source, v.target);
-        i += 1;
-    }
-    out
-}
-
-// Writes the feed of what was read, and gives its length.
-fn put_feed(words: &mut [u32], classes: &[u32], labels: &[u32], x: State) -> usize
-    requires { ⌜ Countable x ⌝ ∗ ⌜ lineWords ≤ length (now classes) ⌝ ∗ ⌜ lineWords ≤ length (now labels) ⌝ ∗ ⌜ feedRoom ≤ length (now words) ⌝ }
-    ensures { λ r. ⌜ Wrote (now (words .entry)) (now (words .exit)) 0 (feedOf (x .classes .names .n) (x .labels .names .n) (entries (now (classes .entry)) (x .classes .lines)) (entries (now (labels .entry)) (x .labels .lines))) r ⌝ }
-{
-    let c = x.classes;
-    let l = x.labels;
-    let m = c.names.n;
-    let n = l.names.n;
-    let head = put_two(words, 0, m as u32, n as u32);
-    let first = put_counts(words, head, classes, c.lines, m);
-    let second = put_counts(words, first, labels, l.lines, n);
-    let third = put_tables(words, second, classes, c.lines, m);
-    put_tables(words, third, labels, l.lines, n)
-}
-
-// Writes the drawing, and gives its length.
-fn put_drawing(words: &mut [u32], d: Drawing) -> usize
-    requires { ⌜ Drawn d ⌝ ∗ ⌜ drawingRoom ≤ length (now words) ⌝ }
-    ensures { λ r. ⌜ Wrote (now (words .entry)) (now (words .exit)) 0 (drawingOf d) r ⌝ }
-{
-    let head = put_two(words, 0, d.n as u32, d.e as u32);
-    let edges = put_nodes(words, head, d);
-    put_edges(words, edges, d)
+    let head = put_two(words, 0, c.names.n as u32, l.names.n as u32);
+    let first = put_counts(words, head, classes, c);
+    let second = put_counts(words, first, labels, l);
+    let third = put_tables(words, second, classes, c);
+    put_tables(words, third, labels, l)
 }
 
 // ---- a sheet
 
-// Reads a sheet: its feed's words go to the front of one slice, its drawing's to the front of another. The lines of the classes and of
-// the labels are held in two more.
-pub fn read_sheet(
-    feed: &mut [u32],
-    drawing: &mut [u32],
-    classes: &mut [u32],
-    labels: &mut [u32],
-    s: &[u8],
-) -> SheetWords
-    requires { ⌜ feedRoom ≤ length (now feed) ⌝ ∗ ⌜ drawingRoom ≤ length (now drawing) ⌝ ∗ ⌜ lineWords ≤ length (now classes) ⌝ ∗ ⌜ lineWords ≤ length (now labels) ⌝ }
-    ensures { λ r. ⌜ Answers (now (s .entry)) (now (feed .exit)) (now (drawing .exit)) r (r .found) ⌝ }
+// Reads a sheet: its feed's words go to the front of a slice. The lines of the classes and of the labels are held in two more.
+pub fn read_sheet(feed: &mut [u32], classes: &mut [u32], labels: &mut [u32], s: &[u8]) -> SheetRead
+    requires { ⌜ Lent (now feed) (now classes) (now labels) ⌝ }
+    ensures { λ r. ⌜ Answers (now (s .entry)) (now (feed .exit)) r ⌝ }
 {
-    if s.len() > 16384 {
-        let nodes = no_names();
-        return SheetWords {
-            found: Found::Breach(0),
-            feed: 0,
-            drawing: 0,
-            nodes,
-        };
-    }
     let scan = read_lines(classes, labels, s);
-    let found = scan.found;
+    let answer = scan.answer;
     let x = scan.state;
     let nodes = x.nodes;
-    match found {
-        Found::Breach(at) => SheetWords {
-            found: Found::Breach(at),
-            feed: 0,
-            drawing: 0,
+    let drawing = x.drawing;
+    if accepts(answer) {
+        let n = put_feed(feed, classes, labels, x.classes, x.labels);
+        return SheetRead {
+            answer,
+            feed: n,
             nodes,
-        },
-        Found::Whole => {
-            let n = put_feed(feed, classes, labels, x);
-            let m = put_drawing(drawing, x.drawing);
-            SheetWords {
-                found: Found::Whole,
-                feed: n,
-                drawing: m,
-                nodes,
-            }
-        }
+            drawing,
+        };
+    }
+    SheetRead {
+        answer,
+        feed: 0,
+        nodes,
+        drawing,
     }
 }

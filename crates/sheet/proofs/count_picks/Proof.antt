@@ -19,8 +19,14 @@ abbrev μ-loop : tie.MeasureT-loop
 loop-holds : tie.Need-loop-holds Inv-loop μ-loop
 loop-holds c = (tallied-start _, omega arith)
 
+mul-v : tie.Need-mul-v Inv-loop μ-loop
+mul-v c = search needs
+
 element-copy-out-v : tie.Need-element-copy-out-v Inv-loop μ-loop
 element-copy-out-v c = omega (arith, c .loop-test .taken, c .before .before .pre .few)
+
+add-i : tie.Need-add-i Inv-loop μ-loop
+add-i c = search needs
 
 add-c : tie.Need-add-c Inv-loop μ-loop
 add-c c = omega (arith, c .before .before .before .before .loop .inv .0 .few, c .before .before .before .loop-test .taken, c .before .before .before .before .before .pre .few)
@@ -63,9 +69,9 @@ count-picks-spec =
     Inv-loop
     μ-loop
     loop-holds
-    (λ c. search needs)
+    mul-v
     element-copy-out-v
-    (λ c. search needs)
+    add-i
     add-c
     loop-less
     loop-again

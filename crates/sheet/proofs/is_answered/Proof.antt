@@ -9,6 +9,21 @@ use Rattle.sheet.proofs.is_answered.Tie as tie
 enum-told : tie.Need-enum-told
 enum-told c = search needs
 
+enum-known-answer : tie.Need-enum-known-answer
+enum-known-answer c = search needs
+
+is-done-requires : tie.Need-is-done-requires
+is-done-requires c κs = search needs
+
+enum-known-answer-2 : tie.Need-enum-known-answer-2
+enum-known-answer-2 c = search needs
+
+is-finished-requires : tie.Need-is-finished-requires
+is-finished-requires c κs = search needs
+
+enum-told-2 : tie.Need-enum-told-2
+enum-told-2 c = search needs
+
 returns : tie.Need-returns
 unfolding queryVerdict isAccepted
 returns c = rw (c .enum-told .given .1)
@@ -30,11 +45,11 @@ is-answered-spec =
     tie.close
     (tie.spec
     enum-told
-    (λ c. search needs)
-    (λ c κs. search needs)
-    (λ c. search needs)
-    (λ c κs. search needs)
-    (λ c. search needs)
+    enum-known-answer
+    is-done-requires
+    enum-known-answer-2
+    is-finished-requires
+    enum-told-2
     returns
     returns-2
     returns-3

@@ -1,3 +1,4 @@
+-- `sheet_lines::class_line` meets its contract. Assumes nothing.
 use mathlib.Core.Path.{_∙_, sym}
 use Rattle.sheet_lines.proofs.Tests.{class-passed}
 use Rattle.sheet_lines.proofs.Steps.{class-read, class-refused}
@@ -5,22 +6,12 @@ use native.Mathlib.Omega.{arith}
 use borrow.Author.Needs.{needs}
 use Rattle.sheet_lines.proofs.class_line.Statement.{statement}
 use Rattle.sheet_lines.proofs.class_line.Tie as tie
-use Rattle.sheet_lines.proofs.class_line.Reads as reads
-use Rattle.sheet_lines.proofs.class_line.Lts as lts
-use Rattle.sheet_lines.proofs.is_class.Reads as is-class-reads
-use Rattle.sheet_lines.proofs.with_line.Reads as with-line-reads
-use Rattle.sheet_text.proofs.fields_of.Reads as fields-of-reads
-use Rattle.sheet_text.proofs.value_of.Reads as value-of-reads
 
--- src/lib.rt:138:9
--- src/lib.rt:139:8
--- src/lib.rt:140:13
 value-of-requires : tie.Need-value-of-requires
 value-of-requires c κs =
     let w = c .before .before .fields-of .ensures in
     (w .within .second, class-passed w _ (sym (c .before .is-class .ensures) ∙ c .if1 .taken) .2)
 
--- src/lib.rt:142:9
 with-line-requires : tie.Need-with-line-requires
 with-line-requires c κs =
     let i = c .before .before in
@@ -33,8 +24,6 @@ with-line-requires c κs =
       omega (arith, f .lines, p .0 .starts, p .0 .apart, p .0 .ends, w .within .first .ordered, w .within .second .ends, s .pre .0 .short, s .pre .1),
     )
 
--- src/lib.rt:143:9
--- src/lib.rt:143:9
 returns : tie.Need-returns
 returns c =
     let l = c .before .before in
@@ -43,7 +32,6 @@ returns c =
     let g = i .before .before in
     class-read (g .before .before .before .before .pre .0) (g .fields-of .ensures) (sym (i .before .is-class .ensures) ∙ i .if1 .taken) (v .value-of .ensures) (l .with-line .ensures)
 
--- src/lib.rt:133:1
 returns-2 : tie.Need-returns-2
 returns-2 c =
     let g = c .before .before in

@@ -1,15 +1,9 @@
+-- `sheet_lines::fits` meets its contract. Assumes nothing.
 use Rattle.sheet_lines.proofs.Naming.{fits-is}
 use borrow.Author.Needs.{needs}
 use Rattle.sheet_lines.proofs.fits.Statement.{statement}
 use Rattle.sheet_lines.proofs.fits.Tie as tie
-use Rattle.sheet_lines.proofs.fits.Reads as reads
-use Rattle.sheet_lines.proofs.fits.Lts as lts
-use Rattle.sheet_lines.proofs.knows.Reads as knows-reads
-use Rattle.sheet_text.proofs.is_name.Reads as is-name-reads
 
--- src/lib.rt:74:5
--- src/lib.rt:74:44
--- src/lib.rt:70:1
 returns : tie.Need-returns
 returns c =
     let s = c .before .before .before .before in

@@ -1,18 +1,13 @@
+-- `sheet_lines::header_line` meets its contract. Assumes nothing.
 use mathlib.Core.Path.{_∙_, sym}
 use Rattle.sheet_lines.proofs.Steps.{header-read, header-refused}
 use borrow.Author.Needs.{needs}
 use Rattle.sheet_lines.proofs.header_line.Statement.{statement}
 use Rattle.sheet_lines.proofs.header_line.Tie as tie
-use Rattle.sheet_lines.proofs.header_line.Reads as reads
-use Rattle.sheet_lines.proofs.header_line.Lts as lts
-use Rattle.sheet_lines.proofs.is_header.Reads as is-header-reads
 
--- src/lib.rt:316:8
--- src/lib.rt:319:9
 returns : tie.Need-returns
 returns c = header-read (c .before .before .before .pre) (sym (c .before .is-header .ensures) ∙ c .if1 .taken)
 
--- src/lib.rt:312:1
 returns-2 : tie.Need-returns-2
 returns-2 c = header-refused (c .before .before .before .pre) (sym (c .before .is-header .ensures) ∙ c .if1 .left)
 

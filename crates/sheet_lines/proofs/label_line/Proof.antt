@@ -1,3 +1,4 @@
+-- `sheet_lines::label_line` meets its contract. Assumes nothing.
 use mathlib.Core.Path.{_∙_, sym}
 use Rattle.sheet_lines.proofs.Tests.{label-passed}
 use Rattle.sheet_lines.proofs.Steps.{label-read, label-refused}
@@ -5,29 +6,18 @@ use native.Mathlib.Omega.{arith}
 use borrow.Author.Needs.{needs}
 use Rattle.sheet_lines.proofs.label_line.Statement.{statement}
 use Rattle.sheet_lines.proofs.label_line.Tie as tie
-use Rattle.sheet_lines.proofs.label_line.Reads as reads
-use Rattle.sheet_lines.proofs.label_line.Lts as lts
-use Rattle.sheet_lines.proofs.is_label.Reads as is-label-reads
-use Rattle.sheet_lines.proofs.with_line.Reads as with-line-reads
-use Rattle.sheet_text.proofs.fields_of.Reads as fields-of-reads
-use Rattle.sheet_text.proofs.value_of.Reads as value-of-reads
 
--- src/lib.rt:168:9
--- src/lib.rt:169:8
--- src/lib.rt:170:13
 value-of-requires : tie.Need-value-of-requires
 value-of-requires c κs =
     let w = c .before .before .fields-of .ensures in
     (w .within .second, label-passed w _ (sym (c .before .is-label .ensures) ∙ c .if1 .taken) .2)
 
--- src/lib.rt:171:13
 value-of-requires-2 : tie.Need-value-of-requires-2
 value-of-requires-2 c κs =
     let i = c .before in
     let w = i .before .before .fields-of .ensures in
     (w .within .third, label-passed w _ (sym (i .before .is-label .ensures) ∙ i .if1 .taken) .3)
 
--- src/lib.rt:173:9
 with-line-requires : tie.Need-with-line-requires
 with-line-requires c κs =
     let i = c .before .before .before in
@@ -40,8 +30,6 @@ with-line-requires c κs =
       omega (arith, f .lines, p .0 .starts, p .0 .apart, p .0 .after, p .0 .ends, w .within .first .ordered, w .within .second .ordered, w .within .third .ends, s .pre .0 .short, s .pre .1),
     )
 
--- src/lib.rt:174:9
--- src/lib.rt:174:9
 returns : tie.Need-returns
 returns c =
     let l = c .before .before in
@@ -52,7 +40,6 @@ returns c =
     label-read (g .before .before .before .before .pre .0) (g .fields-of .ensures) (sym (i .before .is-label .ensures) ∙ i .if1 .taken) (u .value-of .ensures) (v .value-of2 .ensures)
     (l .with-line .ensures)
 
--- src/lib.rt:163:1
 returns-2 : tie.Need-returns-2
 returns-2 c =
     let g = c .before .before in

@@ -1,3 +1,4 @@
+-- `sheet_lines::node_line` meets its contract. Assumes nothing.
 use mathlib.Core.Path.{_∙_, sym}
 use mathlib.Core.Bool.{false}
 use Rattle.sheet_text.specs.inner.Parts.{textAt}
@@ -11,41 +12,27 @@ use native.Mathlib.Omega.{arith}
 use borrow.Author.Needs.{needs}
 use Rattle.sheet_lines.proofs.node_line.Statement.{statement}
 use Rattle.sheet_lines.proofs.node_line.Tie as tie
-use Rattle.sheet_lines.proofs.node_line.Reads as reads
-use Rattle.sheet_lines.proofs.node_line.Lts as lts
-use Rattle.sheet_lines.proofs.is_node.Reads as is-node-reads
-use Rattle.sheet_lines.proofs.with_node.Reads as with-node-reads
-use Rattle.sheet_text.proofs.fields_of.Reads as fields-of-reads
-use Rattle.sheet_text.proofs.find_name.Reads as find-name-reads
-use Rattle.sheet_text.proofs.value_of.Reads as value-of-reads
 
--- src/lib.rt:229:9
--- src/lib.rt:230:8
 is-node-requires : tie.Need-is-node-requires
 is-node-requires c κs =
     let f = c .before .before .before .pre .fine in
     record { within = c .fields-of .ensures .within; first = spans-wider (f .classes) (omega arith); second = spans-wider (f .nodes) (omega arith) }
 
--- src/lib.rt:231:21
 find-name-requires : tie.Need-find-name-requires
 find-name-requires c κs = (c .before .before .fields-of .ensures .within .second, spans-wider (c .before .before .before .before .before .pre .fine .classes) (omega arith))
 
--- src/lib.rt:231:21
 cast-class : tie.Need-cast-class
 cast-class c =
     let s = c .before .before .before .before .before .before in
     let f = find-small (s .pre .fine .classes) (omega arith) (textAt (s .args .s .now) (c .before .before .before .fields-of .result .second)) in
     omega (arith, c .find-name .ensures)
 
--- src/lib.rt:232:13
 value-of-requires : tie.Need-value-of-requires
 value-of-requires c κs =
     let i = c .before in
     let w = i .before .before .fields-of .ensures in
     (w .within .third, node-passed w _ _ (sym (i .before .is-node .ensures) ∙ i .if1 .taken))
 
--- src/lib.rt:233:9
--- src/lib.rt:233:9
 returns : tie.Need-returns
 returns c =
     let v = c .before in
@@ -56,7 +43,6 @@ returns c =
     let made = rw (k .find-name .ensures, v .value-of .ensures) at (c .with-node .ensures) in
     node-read (s .pre) (state-roomy (s .args .x) (s .good .1 .1 .0)) (g .fields-of .ensures) (sym (i .before .is-node .ensures) ∙ i .if1 .taken) made
 
--- src/lib.rt:224:1
 returns-2 : tie.Need-returns-2
 unfolding allow viewOf tablesRead
 returns-2 c =

@@ -1,27 +1,20 @@
+-- `sheet_lines::numbered` meets its contract. Assumes nothing.
 use mathlib.Core.Path.{_∙_, sym}
 use Rattle.sheet_lines.proofs.Naming.{stays-numbered, new-fits, new-numbered}
 use native.Mathlib.Omega.{arith}
 use borrow.Author.Needs.{needs}
 use Rattle.sheet_lines.proofs.numbered.Statement.{statement}
 use Rattle.sheet_lines.proofs.numbered.Tie as tie
-use Rattle.sheet_lines.proofs.numbered.Reads as reads
-use Rattle.sheet_lines.proofs.numbered.Lts as lts
-use Rattle.sheet_lines.proofs.knows.Reads as knows-reads
-use Rattle.sheet_text.proofs.with_name.Reads as with-name-reads
 
--- src/lib.rt:82:8
--- src/lib.rt:83:9
 returns : tie.Need-returns
 returns c = stays-numbered (c .before .before .before .pre) (sym (c .before .knows .ensures) ∙ c .if1 .taken)
 
--- src/lib.rt:85:5
 with-name-requires : tie.Need-with-name-requires
 with-name-requires c κs =
     let s = c .before .before .before in
     let n = new-fits (s .pre) (sym (c .before .knows .ensures) ∙ c .if1 .left) in
     omega (arith, s .pre .asked .few)
 
--- src/lib.rt:78:1
 returns-2 : tie.Need-returns-2
 returns-2 c =
     let i = c .before in

@@ -1,37 +1,25 @@
+-- `sheet_lines::read_line` meets its contract. Assumes nothing.
 use Rattle.sheet_lines.specs.inner.State.{viewOf}
 use Rattle.sheet_lines.proofs.Tests.{header-first, line-of-values, line-of-end}
 use Rattle.sheet_lines.proofs.Steps.{section-ended, of-other, read-as}
 use borrow.Author.Needs.{needs}
 use Rattle.sheet_lines.proofs.read_line.Statement.{statement}
 use Rattle.sheet_lines.proofs.read_line.Tie as tie
-use Rattle.sheet_lines.proofs.read_line.Reads as reads
-use Rattle.sheet_lines.proofs.read_line.Lts as lts
-use Rattle.sheet_lines.proofs.end_section.Reads as end-section-reads
-use Rattle.sheet_lines.proofs.header_line.Reads as header-line-reads
-use Rattle.sheet_lines.proofs.value_line.Reads as value-line-reads
 
--- src/lib.rt:382:13
--- src/lib.rt:382:13
--- src/lib.rt:382:13
--- src/lib.rt:382:13
 returns : tie.Need-returns
 unfolding viewOf
 returns c =
     let l = c .before .before .before .before in
     let i = l .before .before .before in
     let o = i .before .before in
-    read-as (l .value-line .ensures) (line-of-values _ _ _ (o .if1 .taken) (i .if2 .taken) (o .before .before .before .before .pre .ready .inside .ends))
+    read-as (l .value-line .ensures) (line-of-values _ _ _ (o .if1 .taken) (i .if2 .taken) (o .before .before .before .before .pre .0 .inside .ends))
 
--- src/lib.rt:384:9
--- src/lib.rt:384:9
 returns-2 : tie.Need-returns-2
 unfolding viewOf
 returns-2 c =
     let o = c .before .before .before in
-    rw (c .end-section .ensures) (read-as (of-other _ _ (section-ended (o .before .before .before .before .pre .ready))) (line-of-end _ _ _ (o .if1 .taken) (c .before .if2 .left)))
+    rw (c .end-section .ensures) (read-as (of-other _ _ (section-ended (o .before .before .before .before .pre .0))) (line-of-end _ _ _ (o .if1 .taken) (c .before .if2 .left)))
 
--- src/lib.rt:386:5
--- src/lib.rt:370:1
 returns-3 : tie.Need-returns-3
 unfolding viewOf
 returns-3 c = read-as (of-other _ _ (c .header-line .ensures)) (header-first _ _ (c .before .if1 .left))

@@ -1,3 +1,4 @@
+-- `sheet_lines::value_line` meets its contract. Assumes nothing.
 use mathlib.Core.Path.{_≡_}
 use Rattle.sheet_lines.specs.inner.State.{viewOf}
 use Rattle.sheet_lines.proofs.Tests.{values-of}
@@ -6,41 +7,25 @@ use native.Mathlib.Omega.{arith}
 use borrow.Author.Needs.{needs}
 use Rattle.sheet_lines.proofs.value_line.Statement.{statement}
 use Rattle.sheet_lines.proofs.value_line.Tie as tie
-use Rattle.sheet_lines.proofs.value_line.Reads as reads
-use Rattle.sheet_lines.proofs.value_line.Lts as lts
-use Rattle.sheet_lines.proofs.class_line.Reads as class-line-reads
-use Rattle.sheet_lines.proofs.edge_line.Reads as edge-line-reads
-use Rattle.sheet_lines.proofs.label_line.Reads as label-line-reads
-use Rattle.sheet_lines.proofs.node_line.Reads as node-line-reads
 
--- src/lib.rt:358:9
--- src/lib.rt:358:9
--- src/lib.rt:358:9
 returns : tie.Need-returns
 unfolding viewOf
 returns c = let l = c .before .before in read-as (of-class _ (l .class-line .ensures)) (values-of _ _ 0 (l .before .before .if1 .taken))
 
--- src/lib.rt:361:9
--- src/lib.rt:361:9
--- src/lib.rt:361:9
 returns-2 : tie.Need-returns-2
 unfolding viewOf
 returns-2 c = let l = c .before .before in read-as (of-label _ (l .label-line .ensures)) (values-of _ _ 1 (l .before .before .if2 .taken))
 
--- src/lib.rt:364:9
--- src/lib.rt:364:9
 returns-3 : tie.Need-returns-3
 unfolding viewOf
 returns-3 c = read-as (of-other _ _ (c .node-line .ensures)) (values-of _ _ 2 (c .before .if3 .taken))
 
--- src/lib.rt:366:5
--- src/lib.rt:352:1
 returns-4 : tie.Need-returns-4
 unfolding viewOf
 returns-4 c =
     let i = c .before .before .before in
     let s = i .before .before .before .before in
-    let z : s .args .x .section ≡ 3 = omega (arith, s .pre .ready .fine .section) in
+    let z : s .args .x .section ≡ 3 = omega (arith, s .pre .0 .fine .section) in
     read-as (of-other _ _ (c .edge-line .ensures)) (values-of _ _ 3 z)
 
 pub value-line-spec : {M : Type 1} → statement M

@@ -1,23 +1,16 @@
+-- `sheet_lines::with_edge` meets its contract. Assumes nothing.
 use Rattle.sheet_lines.specs.inner.State.{stepBy, withDrawing, edgeStep}
 use Rattle.drawing.specs.Builder.{lineOf}
 use borrow.Author.Needs.{needs}
 use Rattle.sheet_lines.proofs.with_edge.Statement.{statement}
 use Rattle.sheet_lines.proofs.with_edge.Tie as tie
-use Rattle.sheet_lines.proofs.with_edge.Reads as reads
-use Rattle.sheet_lines.proofs.with_edge.Lts as lts
-use Rattle.answers.proofs.accepts.Reads as accepts-reads
-use Rattle.drawing.proofs.Drawing.with_edge.Reads as with-edge-reads
 
--- src/lib.rt:255:9
--- src/lib.rt:257:8
--- src/lib.rt:261:9
 returns : tie.Need-returns
 unfolding edgeStep stepBy withDrawing lineOf
 returns c =
     let i = c .before in
     rw (← i .before .before .with-edge .ensures, ← i .before .accepts .ensures, i .if1 .taken)
 
--- src/lib.rt:251:1
 returns-2 : tie.Need-returns-2
 unfolding edgeStep stepBy lineOf
 returns-2 c = rw (← c .before .before .with-edge .ensures, ← c .before .accepts .ensures, c .if1 .left)

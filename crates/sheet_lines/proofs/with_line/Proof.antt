@@ -1,3 +1,4 @@
+-- `sheet_lines::with_line` meets its contract. Assumes nothing.
 use Rattle.sheet_text.specs.inner.Parts.{textAt}
 use Rattle.sheet_lines.proofs.Naming.{find-small}
 use Rattle.sheet_lines.proofs.Entries.{lined}
@@ -5,15 +6,7 @@ use native.Mathlib.Omega.{arith}
 use borrow.Author.Needs.{needs}
 use Rattle.sheet_lines.proofs.with_line.Statement.{statement}
 use Rattle.sheet_lines.proofs.with_line.Tie as tie
-use Rattle.sheet_lines.proofs.with_line.Reads as reads
-use Rattle.sheet_lines.proofs.with_line.Lts as lts
-use Rattle.sheet_lines.proofs.numbered.Reads as numbered-reads
-use Rattle.sheet_lines.proofs.put_line.Reads as put-line-reads
-use Rattle.sheet_text.proofs.find_name.Reads as find-name-reads
 
--- src/lib.rt:113:9
--- src/lib.rt:114:9
--- src/lib.rt:115:27
 cast-put-line : tie.Need-cast-put-line
 cast-put-line c =
     let found = c .before .before in
@@ -21,10 +14,6 @@ cast-put-line c =
     let f = find-small (s .pre .0 .asked .spans) (s .pre .0 .asked .few) (textAt (s .args .s .now) (s .args .p)) in
     omega (arith, found .find-name .ensures)
 
--- src/lib.rt:115:5
--- src/lib.rt:118:16
--- src/lib.rt:99:1
--- src/lib.rt:99:1
 returns : tie.Need-returns
 returns c =
     let numbered = c .before .before .before .before in

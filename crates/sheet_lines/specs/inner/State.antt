@@ -96,9 +96,8 @@ pub record Ready (s : List ℕ) (line : Span) (x : State) : Type 0 where
   pub short : length s ≤ mostBytes
   pub fine : Fine s (line .start) x
 
--- the same, with two slices that hold the lines of the classes and of the labels
-pub record Held (s classes labels : List ℕ) (line : Span) (x : State) : Type 0 where
-  pub ready : Ready s line x
+-- slices that hold the lines of the classes and of the labels
+pub record Held (classes labels : List ℕ) : Type 0 where
   pub classRoom : lineWords ≤ length classes
   pub labelRoom : lineWords ≤ length labels
 

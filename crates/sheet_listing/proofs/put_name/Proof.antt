@@ -1,6 +1,5 @@
 -- `sheet_listing::put_name` meets its contract: what stands before the field, then the name. Assumes nothing.
 use borrow.Author.Needs.{needs}
-use Rattle.sheet_text.specs.inner.Parts.{nameAt}
 use Rattle.sheet_listing.proofs.Putting.{put-then}
 use Rattle.sheet_listing.proofs.put_name.Statement.{statement}
 use Rattle.sheet_listing.proofs.put_name.Tie as tie
@@ -27,7 +26,6 @@ put-text-requires : tie.Need-put-text-requires
 put-text-requires c κs = let s = entry-of-put-text-arg c in s .pre .0 .inside (s .args .i) (s .pre .1)
 
 returns : tie.Need-returns
-unfolding nameAt
 returns c = put-then (put-gap-of-returns c .put-gap .ensures) (c .before .before .put-text .ensures)
 
 pub put-name-spec : {M : Type 1} → statement M

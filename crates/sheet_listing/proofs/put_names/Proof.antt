@@ -3,9 +3,9 @@ use Prim.Native.Nat.{_-_}
 use native.Mathlib.Omega.{arith}
 use borrow.Author.Needs.{needs}
 use mathlib.Core.Path.{_≡_, refl, _∙_}
-use Rattle.builder.proofs.Builder.{roomy}
+use Rattle.drawing.proofs.Builder.{Roomy, roomy}
 use Rattle.sheet_listing.proofs.Putting.{put-size}
-use Rattle.sheet_listing.proofs.Picked.{Named, Naming, naming-start, naming-takes, naming-skips, naming-end}
+use Rattle.sheet_listing.proofs.Picked.{Naming, naming-start, naming-takes, naming-skips, naming-end}
 use Rattle.sheet_listing.proofs.put_names.Statement.{statement}
 use Rattle.sheet_listing.proofs.put_names.Tie as tie
 
@@ -39,33 +39,33 @@ loop-of-returns c = after-loop-of-returns c .before
 
 -- ---- end of places
 
-named : (s : tie.Start Inv-loop μ-loop) → Named (s .args .sheet .now) (s .args .names) (s .args .t5)
-named s = record { spans = s .pre .0; each = s .pre .1; room = roomy (s .args .t5) (s .good .1 .1 .1 .1 .0) .nodes }
+room : (s : tie.Start Inv-loop μ-loop) → Roomy (s .args .t5)
+room s = roomy (s .args .t5) (s .good .1 .1 .1 .1 .0)
 
 loop-holds : tie.Need-loop-holds Inv-loop μ-loop
 loop-holds c = (naming-start _ _ _ _ _, refl)
 
 mul-v : tie.Need-mul-v Inv-loop μ-loop
-mul-v c = omega (arith, c .before .loop .inv .1, entry-of-in-loop c .pre .0 .few, entry-of-in-loop c .pre .1)
+mul-v c = omega (arith, c .before .loop .inv .1, entry-of-in-loop c .pre .spans .few, entry-of-in-loop c .pre .each)
 
 element-copy-out-v : tie.Need-element-copy-out-v Inv-loop μ-loop
-element-copy-out-v c = omega (arith, c .before .loop .inv .1, entry-of-in-loop c .pre .0 .few, entry-of-in-loop c .pre .1)
+element-copy-out-v c = omega (arith, c .before .loop .inv .1, entry-of-in-loop c .pre .spans .few, entry-of-in-loop c .pre .each)
 
 put-name-requires : tie.Need-put-name-requires Inv-loop μ-loop
 put-name-requires c κs =
     let l = in-loop-of-put-name-arg c in
     let p = entry-of-in-loop l .pre in
-    (p .0, omega (arith, l .loop-test .taken, l .before .loop .inv .1, p .1))
+    (p .spans, omega (arith, l .loop-test .taken, l .before .loop .inv .1, p .each))
 
 loop-again : tie.Need-loop-again Inv-loop μ-loop
 loop-again c =
     let l = in-loop-of-again c in
-    (naming-takes (l .before .loop .inv .0) (named (entry-of-in-loop l)) (omega (arith, l .loop-test .taken, l .before .loop .inv .1)) (then1-of-again c .if1 .taken) (c .before .before .put-name .ensures), l .before .loop .inv .1)
+    (naming-takes (l .before .loop .inv .0) (entry-of-in-loop l .pre) (room (entry-of-in-loop l)) (omega (arith, l .loop-test .taken, l .before .loop .inv .1)) (then1-of-again c .if1 .taken) (c .before .before .put-name .ensures), l .before .loop .inv .1)
 
 loop-again-2 : tie.Need-loop-again-2 Inv-loop μ-loop
 loop-again-2 c =
     let l = c .before .before .before in
-    (naming-skips (l .before .loop .inv .0) (named (entry-of-in-loop l)) (omega (arith, l .loop-test .taken, l .before .loop .inv .1)) (c .if1 .left), l .before .loop .inv .1)
+    (naming-skips (l .before .loop .inv .0) (entry-of-in-loop l .pre) (room (entry-of-in-loop l)) (omega (arith, l .loop-test .taken, l .before .loop .inv .1)) (c .if1 .left), l .before .loop .inv .1)
 
 same-length : tie.Need-same-length Inv-loop μ-loop
 same-length c = c .before .before .put-byte .kept .0 ∙ put-size (loop-of-returns c .loop .inv .0 .putting .put)
@@ -73,7 +73,7 @@ same-length c = c .before .before .put-byte .kept .0 ∙ put-size (loop-of-retur
 returns : tie.Need-returns Inv-loop μ-loop
 returns c =
     let l = after-loop-of-returns c in
-    naming-end (l .before .loop .inv .0) (named (entry-of-after-loop l)) (omega (arith, l .loop-test .left, l .before .loop .inv .1)) (c .before .before .put-byte .ensures)
+    naming-end (l .before .loop .inv .0) (entry-of-after-loop l .pre) (room (entry-of-after-loop l)) (omega (arith, l .loop-test .left, l .before .loop .inv .1)) (c .before .before .put-byte .ensures)
 
 pub put-names-spec : {M : Type 1} → statement M
 put-names-spec =

@@ -39,16 +39,16 @@ row-end-requires c κs = c .before .loop .inv .upTo
 put-row-requires : tie.Need-put-row-requires Inv-loop μ-loop
 put-row-requires c κs =
     let e = c .before .row-end .ensures in
-    record { ordered = omega (arith, c .before .before .loop-test .taken); ends = omega (arith, entry-of-put-row-arg c .pre .1) }
+    record { ordered = omega (arith, c .before .before .loop-test .taken); ends = omega (arith, entry-of-put-row-arg c .pre .inside) }
 
 loop-less : tie.Need-loop-less Inv-loop μ-loop
-loop-less c = let e = row-end-of-again c .row-end .ensures in omega (arith, in-loop-of-again c .loop-test .taken, entry-of-again c .pre .0)
+loop-less c = let e = row-end-of-again c .row-end .ensures in omega (arith, in-loop-of-again c .loop-test .taken, entry-of-again c .pre .some)
 
 loop-again : tie.Need-loop-again Inv-loop μ-loop
 loop-again c =
     let l = in-loop-of-again c in
     let p = entry-of-in-loop l .pre in
-    rowing-more (l .before .loop .inv) (p .0) (p .1) (l .loop-test .taken) (row-end-of-again c .row-end .ensures) (c .before .before .put-row .ensures)
+    rowing-more (l .before .loop .inv) (p .some) (p .inside) (l .loop-test .taken) (row-end-of-again c .row-end .ensures) (c .before .before .put-row .ensures)
 
 same-length : tie.Need-same-length Inv-loop μ-loop
 same-length c = put-size (c .before .loop .inv .putting .put)

@@ -16,14 +16,14 @@ abbrev μ-loop : tie.MeasureT-loop
 μ-loop rows lines k n₀ i₀ n i = lines - i
 
 loop-holds : tie.Need-loop-holds Inv-loop μ-loop
-loop-holds c = let l = ap length (lines-all (c .args .rows .now) (c .args .lines) (c .pre .0) (c .args .k)) in (omega arith, omega arith, omega arith)
+loop-holds c = let l = ap length (lines-all (c .args .rows .now) (c .args .lines) (c .pre .inside) (c .args .k)) in (omega arith, omega arith, omega arith)
 
 loop-again : tie.Need-loop-again Inv-loop μ-loop
 loop-again c =
     let at-loop-test = c .before .before in
     let at-loop = at-loop-test .before in
     let s = at-loop .before in
-    let l = ap length (lines-in (s .args .rows .now) (s .args .lines) (s .pre .0) (s .args .k) (at-loop .loop .i) (at-loop-test .loop-test .taken) (c .if1 .taken)) in
+    let l = ap length (lines-in (s .args .rows .now) (s .args .lines) (s .pre .inside) (s .args .k) (at-loop .loop .i) (at-loop-test .loop-test .taken) (c .if1 .taken)) in
     let v = at-loop .loop .inv .2 in
     (omega arith, omega arith, omega arith)
 
@@ -32,14 +32,14 @@ loop-again-2 c =
     let at-loop-test = c .before .before in
     let at-loop = at-loop-test .before in
     let s = at-loop .before in
-    let l = ap length (lines-out (s .args .rows .now) (s .args .lines) (s .pre .0) (s .args .k) (at-loop .loop .i) (at-loop-test .loop-test .taken) (c .if1 .left)) in
+    let l = ap length (lines-out (s .args .rows .now) (s .args .lines) (s .pre .inside) (s .args .k) (at-loop .loop .i) (at-loop-test .loop-test .taken) (c .if1 .left)) in
     let v = at-loop .loop .inv .2 in
     (omega arith, omega arith, omega arith)
 
 returns : tie.Need-returns Inv-loop μ-loop
 returns c =
     let s = c .before .before in
-    let l = ap length (lines-done (s .args .rows .now) (s .args .lines) (s .pre .0) (s .args .k) (c .before .loop .i) (c .loop-test .left)) in
+    let l = ap length (lines-done (s .args .rows .now) (s .args .lines) (s .pre .inside) (s .args .k) (c .before .loop .i) (c .loop-test .left)) in
     omega (arith, c .before .loop .inv .2)
 
 pub count-lines-spec : {M : Type 1} → statement M

@@ -1,65 +1,57 @@
--- `sheet_reader::put_counts` meets its contract. The loop's invariant: the counts left, behind what is written, are all. Assumes nothing.
-use mathlib.Core.Path.{ap, sym}
-use mathlib.Core.List.{[], _∷_, map}
-use Prim.Native.Nat.{_-_, _+_, _≤_}
+-- `sheet_reader::put_counts` meets its contract. Assumes nothing.
+use mathlib.Core.Path.{_≡_, ap, sym}
+use mathlib.Core.List.{[], _∷_, _++_, map}
+use Prim.Native.Nat.{_+_, _-_, _≤_}
 use lib.ListN.{length}
+use Rattle.tables.proofs.Putting.{Putting, putting-start, putting-same, putting-more, putting-room, putting-end}
 use Rattle.sheet_lines.specs.inner.State.{entries}
-use Rattle.sheet_reader.specs.inner.Answers.{grouped}
-use Rattle.tables.proofs.Writing.{Writing, writing-start, writing-same, writing-end}
-use Rattle.sheet_reader.proofs.Writing.{writing-some, writing-room}
+use Rattle.sheet_reader.specs.inner.Answers.{tablesIn}
 use Rattle.sheet_reader.proofs.Grouping.{tablesFrom, tables-all, tables-more, tables-done}
-use Rattle.sheet_reader.proofs.Words.{length-grouped}
 use native.Mathlib.Omega.{arith}
 use Rattle.sheet_reader.proofs.put_counts.Statement.{statement}
 use Rattle.sheet_reader.proofs.put_counts.Tie as tie
 
 abbrev Inv-loop : tie.InvT-loop
-Inv-loop words₀ at rows lines tables out₀ k₀ words out k = (Writing words₀ words at out (length words₀) (map length (grouped (entries rows lines) tables)) (map length (tablesFrom (entries rows lines) tables k))) × (k ≤ tables)
+Inv-loop words₀ at rows t out₀ k₀ words out k = (Putting words₀ words at out (map length (tablesIn rows t)) (map length (tablesFrom (entries rows (t .lines)) (t .names .n) k))) × (k ≤ t .names .n)
 
 abbrev μ-loop : tie.MeasureT-loop
-μ-loop words₀ at rows lines tables out₀ k₀ words out k = tables - k
+μ-loop words₀ at rows t out₀ k₀ words out k = t .names .n - k
 
 loop-holds : tie.Need-loop-holds Inv-loop μ-loop
-loop-holds c = (writing-same (sym (ap (map length) (tables-all _ _))) (writing-start _ _ _ _), omega arith)
+unfolding tablesIn
+loop-holds c = (putting-same (sym (ap (map length) (tables-all _ _))) (putting-start _ _ _), omega arith)
 
 cast-count-lines : tie.Need-cast-count-lines Inv-loop μ-loop
-cast-count-lines c =
-    let s = c .before .before .before .before in
-    omega (arith, s .pre .1 .1 .0)
+cast-count-lines c = let s = c .before .before .before in omega (arith, s .before .before .pre .few)
 
 count-lines-requires : tie.Need-count-lines-requires Inv-loop μ-loop
-count-lines-requires c κs =
-    let s = c .before .before .before .before in
-    (s .pre .0, s .pre .1 .0)
+count-lines-requires c κs = let s = c .before .before .before in s .before .before .pre .lines
 
-put-requires : tie.Need-put-requires Inv-loop μ-loop
-put-requires c κs =
-    let at-count-lines = c .before in
-    let at-loop-test = at-count-lines .before in
-    let at-loop = at-loop-test .before in
-    let s = at-loop .before .before .before in
-    let es = entries (s .args .rows .now) (s .args .lines) in
-    let g = length-grouped es (s .args .tables) in
-    let rest = map length (tablesFrom es (s .args .tables) (at-loop .loop .k + 1)) in
-    let r = writing-room (at-loop .loop .inv .0) (at-count-lines .count-lines .result ∷ []) rest (rw (tables-more es _ _ (at-loop-test .loop-test .taken), at-count-lines .count-lines .ensures)) (omega (arith, s .pre .1 .1 .1)) in
+put-word-requires : tie.Need-put-word-requires Inv-loop μ-loop
+put-word-requires c κs =
+    let n = c .before in
+    let i = n .before in
+    let head = i .before .before in
+    let s = head .before .before .before in
+    let es = entries (s .args .rows .now) (s .args .t .lines) in
+    let more : map length (tablesFrom es (s .args .t .names .n) (head .loop .k)) ≡ (n .count-lines .result ∷ []) ++ map length (tablesFrom es (s .args .t .names .n) (head .loop .k + 1)) =
+    rw (tables-more es _ _ (i .if1 .taken), n .count-lines .ensures) in
+    let r = putting-room (n .count-lines .result ∷ []) _ more (head .loop .inv .0) (s .pre .room) in
     omega arith
 
 loop-again : tie.Need-loop-again Inv-loop μ-loop
 loop-again c =
-    let at-put = c .before .before in
-    let at-count-lines = at-put .before .before in
-    let at-loop-test = at-count-lines .before in
-    let at-loop = at-loop-test .before in
-    let s = at-loop .before .before .before in
-    let es = entries (s .args .rows .now) (s .args .lines) in
-    let more = tables-more es _ _ (at-loop-test .loop-test .taken) in
-    (writing-some (at-loop .loop .inv .0) (rw (more, at-count-lines .count-lines .ensures)) (at-put .put .ensures) (at-put .put .kept .0), omega arith)
+    let p = c .before .before in
+    let n = p .before .before in
+    let i = n .before in
+    let head = i .before .before in
+    (putting-more (rw (tables-more _ _ _ (i .if1 .taken), n .count-lines .ensures)) (head .loop .inv .0) (p .put-word .ensures), omega arith)
 
 same-length : tie.Need-same-length Inv-loop μ-loop
-same-length c = c .before .loop .inv .0 .size
+same-length c = c .before .before .loop .inv .0 .size
 
 returns : tie.Need-returns Inv-loop μ-loop
-returns c = writing-end (writing-same (ap (map length) (tables-done _ _ _ (c .loop-test .left))) (c .before .loop .inv .0))
+returns c = putting-end (putting-same (ap (map length) (tables-done _ _ _ (c .if1 .left))) (c .before .before .loop .inv .0))
 
 pub put-counts-spec : {M : Type 1} → statement M
 put-counts-spec =
@@ -70,7 +62,7 @@ put-counts-spec =
     loop-holds
     cast-count-lines
     count-lines-requires
-    put-requires
+    put-word-requires
     (λ c. omega arith)
     (λ c. omega arith)
     loop-again

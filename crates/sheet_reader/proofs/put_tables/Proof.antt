@@ -1,55 +1,51 @@
--- `sheet_reader::put_tables` meets its contract. The loop's invariant: the tables left, behind what is written, are all. Assumes nothing.
+-- `sheet_reader::put_tables` meets its contract. Assumes nothing.
 use mathlib.Core.Path.{ap, sym}
-use mathlib.Core.List.{flatMap}
 use Prim.Native.Nat.{_-_, _≤_}
-use lib.ListN.{length}
-use Rattle.sheet_reader.specs.Sheet.{linesOf}
+use Rattle.tables.specs.Slices.{tableWords, tablesWords}
+use Rattle.tables.proofs.Putting.{Putting, putting-start, putting-same, putting-more, putting-room, putting-end}
 use Rattle.sheet_lines.specs.inner.State.{entries}
-use Rattle.sheet_reader.specs.inner.Answers.{pairWords, grouped}
-use Rattle.tables.proofs.Writing.{Writing, writing-start, writing-same, writing-end}
-use Rattle.sheet_reader.proofs.Writing.{writing-some, writing-room}
+use Rattle.sheet_reader.specs.Sheet.{linesOf}
+use Rattle.sheet_reader.specs.inner.Answers.{tablesIn}
 use Rattle.sheet_reader.proofs.Grouping.{tablesFrom, tables-all, tables-more, tables-done}
 use native.Mathlib.Omega.{arith}
 use Rattle.sheet_reader.proofs.put_tables.Statement.{statement}
 use Rattle.sheet_reader.proofs.put_tables.Tie as tie
 
 abbrev Inv-loop : tie.InvT-loop
-Inv-loop words₀ at rows lines tables out₀ k₀ words out k = (Writing words₀ words at out (length words₀) (flatMap (flatMap pairWords) (grouped (entries rows lines) tables)) (flatMap (flatMap pairWords) (tablesFrom (entries rows lines) tables k))) × (k ≤ tables)
+Inv-loop words₀ at rows t out₀ k₀ words out k = (Putting words₀ words at out (tablesWords (tablesIn rows t)) (tablesWords (tablesFrom (entries rows (t .lines)) (t .names .n) k))) × (k ≤ t .names .n)
 
 abbrev μ-loop : tie.MeasureT-loop
-μ-loop words₀ at rows lines tables out₀ k₀ words out k = tables - k
+μ-loop words₀ at rows t out₀ k₀ words out k = t .names .n - k
 
 loop-holds : tie.Need-loop-holds Inv-loop μ-loop
-loop-holds c = (writing-same (sym (ap (flatMap (flatMap pairWords)) (tables-all _ _))) (writing-start _ _ _ _), omega arith)
+unfolding tablesIn
+loop-holds c = (putting-same (sym (ap tablesWords (tables-all _ _))) (putting-start _ _ _), omega arith)
 
 cast-put-table : tie.Need-cast-put-table Inv-loop μ-loop
-cast-put-table c =
-    let s = c .before .before .before .before .before in
-    omega (arith, s .pre .1 .0)
+cast-put-table c = let s = c .before .before .before .before in omega (arith, s .before .before .pre .few)
 
 put-table-requires : tie.Need-put-table-requires Inv-loop μ-loop
-unfolding flatMap
+unfolding tablesWords
 put-table-requires c κs =
-    let at-loop-test = c .before in
-    let at-loop = at-loop-test .before in
-    let s = at-loop .before .before .before in
-    let es = entries (s .args .rows .now) (s .args .lines) in
-    (s .pre .0, writing-room (at-loop .loop .inv .0) (flatMap pairWords (linesOf (at-loop .loop .k) es)) _ (ap (flatMap (flatMap pairWords)) (tables-more es _ _ (at-loop-test .loop-test .taken))) (s .pre .1 .1))
+    let i = c .before in
+    let head = i .before .before in
+    let s = head .before .before .before in
+    let es = entries (s .args .rows .now) (s .args .t .lines) in
+    (s .pre .lines, putting-room (tableWords (linesOf (head .loop .k) es)) _ (ap tablesWords (tables-more es _ _ (i .if1 .taken))) (head .loop .inv .0) (s .pre .room))
 
 loop-again : tie.Need-loop-again Inv-loop μ-loop
-unfolding flatMap
+unfolding tablesWords
 loop-again c =
-    let at-put-table = c .before .before in
-    let at-loop-test = at-put-table .before .before in
-    let at-loop = at-loop-test .before in
-    (writing-some (at-loop .loop .inv .0) (ap (flatMap (flatMap pairWords)) (tables-more _ _ _ (at-loop-test .loop-test .taken))) (at-put-table .put-table .ensures) (at-put-table .put-table .kept .0), omega arith)
+    let p = c .before .before in
+    let i = p .before .before in
+    (putting-more (ap tablesWords (tables-more _ _ _ (i .if1 .taken))) (i .before .before .loop .inv .0) (p .put-table .ensures), omega arith)
 
 same-length : tie.Need-same-length Inv-loop μ-loop
-same-length c = c .before .loop .inv .0 .size
+same-length c = c .before .before .loop .inv .0 .size
 
 returns : tie.Need-returns Inv-loop μ-loop
-unfolding flatMap
-returns c = writing-end (writing-same (ap (flatMap (flatMap pairWords)) (tables-done _ _ _ (c .loop-test .left))) (c .before .loop .inv .0))
+unfolding tablesWords
+returns c = putting-end (putting-same (ap tablesWords (tables-done _ _ _ (c .if1 .left))) (c .before .before .loop .inv .0))
 
 pub put-tables-spec : {M : Type 1} → statement M
 put-tables-spec =

@@ -1,9 +1,9 @@
--- `sheet_reader::read_lines` meets its contract. The loop's invariant: reading the rest from here is reading the sheet. Assumes nothing.
+-- `sheet_reader::read_lines` meets its contract. Assumes nothing.
 use mathlib.Core.Path.{_≡_, refl, _∙_}
 use Prim.Native.Nat.{_-_}
 use lib.ListN.{length}
 use borrow.Author.Tests.{not-true, not-false}
-use Rattle.sheet_reader.proofs.Lines.{Going, lines-start, line-ready, unended, line-passes, line-breaks, all-read, ends-early}
+use Rattle.sheet_reader.proofs.Lines.{Going, too-long, lines-start, line-ready, unended, line-passes, line-breaks, all-read, ends-early}
 use borrow.Author.Needs.{needs}
 use native.Mathlib.Omega.{arith}
 use Rattle.sheet_reader.proofs.read_lines.Statement.{statement}
@@ -15,8 +15,11 @@ Inv-loop classes₀ labels₀ s n x₀ a₀ at₀ classes labels x a at = (Going
 abbrev μ-loop : tie.MeasureT-loop
 μ-loop classes₀ labels₀ s n x₀ a₀ at₀ classes labels x a at = n - a
 
+returns : tie.Need-returns Inv-loop μ-loop
+returns c = rw (c .before .empty .ensures) (too-long _ _ _ (c .if1 .taken))
+
 loop-holds : tie.Need-loop-holds Inv-loop μ-loop
-loop-holds c = rw (c .empty .ensures) (lines-start _ _ _, refl)
+loop-holds c = rw (c .before .empty .ensures) (lines-start _ _ _ (c .if1 .left), refl)
 
 cut-requires : tie.Need-cut-requires Inv-loop μ-loop
 cut-requires c κs = record { ordered = omega arith; ends = omega (arith, c .before .loop .inv .1) }
@@ -27,93 +30,92 @@ same-length c = c .before .before .before .loop .inv .0 .classSize
 same-length-2 : tie.Need-same-length-2 Inv-loop μ-loop
 same-length-2 c = c .before .before .before .loop .inv .0 .labelSize
 
-returns : tie.Need-returns Inv-loop μ-loop
-returns c =
-    let found = rw (c .before .before .before .loop .inv .1) at (c .before .cut .ensures) in
-    unended (c .before .before .before .loop .inv .0) (omega (arith, c .before .before .before .loop .inv .1)) found (omega (arith, c .before .before .before .loop .inv .1))
+returns-2 : tie.Need-returns-2 Inv-loop μ-loop
+returns-2 c =
+    let g = c .before .before .before .loop .inv in
+    let found = rw (g .1) at (c .before .cut .ensures) in
+    unended (g .0) (omega (arith, g .1)) found (omega (arith, g .1))
 
 read-line-requires : tie.Need-read-line-requires Inv-loop μ-loop
 read-line-requires c κs =
-    let at-cut = c .before .before .before in
-    let at-loop = at-cut .before .before in
-    let s = at-loop .before .before .before .before .before in
-    let found = rw (at-loop .loop .inv .1) at (at-cut .cut .ensures) in
-    let g = at-loop .loop .inv .0 in
-    (line-ready g found (s .pre .0), (omega (arith, g .classSize, s .pre .1 .0), omega (arith, g .labelSize, s .pre .1 .1)))
+    let k = c .before .before .before in
+    let head = k .before .before in
+    let g = head .loop .inv in
+    let e = head .before .before .before .before in
+    let s = e .before .before in
+    let found = rw (g .1) at (k .cut .ensures) in
+    (line-ready (g .0) found, record { classRoom = omega (arith, g .0 .classSize, s .pre .classRoom); labelRoom = omega (arith, g .0 .labelSize, s .pre .labelRoom) })
 
 add-a : tie.Need-add-a Inv-loop μ-loop
 add-a c =
-    let at-cut = c .before .before .before .before .before .before .before .before .before in
-    omega (arith, at-cut .cut .ensures .upTo)
+    let l = c .before .before .before .before .before in
+    let k = l .before .before .before .before in
+    omega (arith, k .cut .ensures .upTo)
 
 same-length-3 : tie.Need-same-length-3 Inv-loop μ-loop
 same-length-3 c =
-    let at-read-line = c .before .before .before .before .before .before .before in
-    let at-loop = at-read-line .before .before .before .before .before .before in
-    at-read-line .read-line .ensures .classSize ∙ at-loop .loop .inv .0 .classSize
+    let y = c .before .before .before .before in
+    let l = y .before .before .before in
+    let k = l .before .before .before .before in
+    l .read-line .ensures .classSize ∙ k .before .before .loop .inv .0 .classSize
 
 same-length-4 : tie.Need-same-length-4 Inv-loop μ-loop
 same-length-4 c =
-    let at-read-line = c .before .before .before .before .before .before .before in
-    let at-loop = at-read-line .before .before .before .before .before .before in
-    at-read-line .read-line .ensures .labelSize ∙ at-loop .loop .inv .0 .labelSize
-
-returns-2 : tie.Need-returns-2 Inv-loop μ-loop
-returns-2 c =
-    let at-read-line = c .before .before .before .before .before .before .before in
-    let at-cut = at-read-line .before .before .before .before in
-    let at-loop = at-cut .before .before in
-    let found = rw (at-loop .loop .inv .1) at (at-cut .cut .ensures) in
-    line-breaks (at-loop .loop .inv .0) found (omega (arith, at-loop .loop .inv .1, at-cut .cut .ensures .upTo)) (at-read-line .read-line .ensures) (not-true _ (c .if2 .taken))
-
-add-at : tie.Need-add-at Inv-loop μ-loop
-add-at c =
-    let at-loop = c .before .before .before .before .before .before .before .before .before .before .before .before .before in
-    let s = at-loop .before .before .before .before .before in
-    omega (arith, at-loop .loop .inv .0 .early, at-loop .loop .inv .0 .upTo, s .pre .0)
-
-loop-less : tie.Need-loop-less Inv-loop μ-loop
-loop-less c =
-    let at-cut = c .before .before .before .before .before .before .before .before .before .before .before in
-    omega (arith, at-cut .cut .ensures .from)
-
-loop-again : tie.Need-loop-again Inv-loop μ-loop
-loop-again c =
-    let at-read-line = c .before .before .before .before .before .before .before in
-    let at-cut = at-read-line .before .before .before .before in
-    let at-loop = at-cut .before .before in
-    let found = rw (at-loop .loop .inv .1) at (at-cut .cut .ensures) in
-    (line-passes (at-loop .loop .inv .0) found (omega (arith, at-loop .loop .inv .1, at-cut .cut .ensures .upTo)) (at-read-line .read-line .ensures) (not-false _ (c .if2 .left)), at-loop .loop .inv .1)
-
-same-length-5 : tie.Need-same-length-5 Inv-loop μ-loop
-same-length-5 c =
-    let at-loop = c .before .before .before .before in
-    at-loop .loop .inv .0 .classSize
-
-same-length-6 : tie.Need-same-length-6 Inv-loop μ-loop
-same-length-6 c =
-    let at-loop = c .before .before .before .before in
-    at-loop .loop .inv .0 .labelSize
+    let y = c .before .before .before .before in
+    let l = y .before .before .before in
+    let k = l .before .before .before .before in
+    l .read-line .ensures .labelSize ∙ k .before .before .loop .inv .0 .labelSize
 
 returns-3 : tie.Need-returns-3 Inv-loop μ-loop
 returns-3 c =
-    let at-loop = c .before .before .before .before in
-    all-read (at-loop .loop .inv .0) (omega (arith, at-loop .loop .inv .1)) (c .if3 .taken)
+    let y = c .before .before .before .before in
+    let l = y .before .before .before in
+    let k = l .before .before .before .before in
+    let g = k .before .before .loop .inv in
+    let found = rw (g .1) at (k .cut .ensures) in
+    line-breaks (g .0) found (omega (arith, g .1, k .cut .ensures .upTo)) (l .read-line .ensures) (not-true _ (c .if3 .taken))
 
-same-length-7 : tie.Need-same-length-7 Inv-loop μ-loop
-same-length-7 c =
-    let at-loop = c .before .before .before .before in
-    at-loop .loop .inv .0 .classSize
+add-at : tie.Need-add-at Inv-loop μ-loop
+add-at c =
+    let y = c .before .before .before .before in
+    let l = y .before .before .before in
+    let k = l .before .before .before .before in
+    let g = k .before .before .loop .inv .0 in
+    omega (arith, g .early, g .upTo, g .short)
 
-same-length-8 : tie.Need-same-length-8 Inv-loop μ-loop
-same-length-8 c =
-    let at-loop = c .before .before .before .before in
-    at-loop .loop .inv .0 .labelSize
+loop-less : tie.Need-loop-less Inv-loop μ-loop
+loop-less c =
+    let y = c .before .before .before .before in
+    let l = y .before .before .before in
+    let k = l .before .before .before .before in
+    omega (arith, k .cut .ensures .from)
+
+loop-again : tie.Need-loop-again Inv-loop μ-loop
+loop-again c =
+    let y = c .before .before .before .before in
+    let l = y .before .before .before in
+    let k = l .before .before .before .before in
+    let g = k .before .before .loop .inv in
+    let found = rw (g .1) at (k .cut .ensures) in
+    (line-passes (g .0) found (omega (arith, g .1, k .cut .ensures .upTo)) (l .read-line .ensures) (not-false _ (c .if3 .left)), g .1)
+
+same-length-5 : tie.Need-same-length-5 Inv-loop μ-loop
+same-length-5 c = c .before .before .before .before .loop .inv .0 .classSize
+
+same-length-6 : tie.Need-same-length-6 Inv-loop μ-loop
+same-length-6 c = c .before .before .before .before .loop .inv .0 .labelSize
 
 returns-4 : tie.Need-returns-4 Inv-loop μ-loop
-returns-4 c =
-    let at-loop = c .before .before .before .before in
-    ends-early (at-loop .loop .inv .0) (omega (arith, at-loop .loop .inv .1)) (c .if3 .left)
+returns-4 c = let g = c .before .before .before .before .loop .inv in all-read (g .0) (omega (arith, g .1)) (c .if4 .taken)
+
+same-length-7 : tie.Need-same-length-7 Inv-loop μ-loop
+same-length-7 c = c .before .before .before .before .loop .inv .0 .classSize
+
+same-length-8 : tie.Need-same-length-8 Inv-loop μ-loop
+same-length-8 c = c .before .before .before .before .loop .inv .0 .labelSize
+
+returns-5 : tie.Need-returns-5 Inv-loop μ-loop
+returns-5 c = let g = c .before .before .before .before .loop .inv in ends-early (g .0) (omega (arith, g .1)) (c .if4 .left)
 
 pub read-lines-spec : {M : Type 1} → statement M
 read-lines-spec =
@@ -122,22 +124,23 @@ read-lines-spec =
     Inv-loop
     μ-loop
     (λ c κs. search needs)
+    returns
     loop-holds
     cut-requires
     same-length
     same-length-2
-    returns
+    returns-2
     read-line-requires
     add-a
     same-length-3
     same-length-4
-    returns-2
+    returns-3
     add-at
     loop-less
     loop-again
     same-length-5
     same-length-6
-    returns-3
+    returns-4
     same-length-7
     same-length-8
-    returns-4)
+    returns-5)

@@ -1,103 +1,95 @@
 -- Answers: what the reader finds in a sheet, and the words that it writes.
 --
--- In order: the state before the first line; what the reading of all lines promises; words written one behind the other; what the reading
--- of a sheet promises.
+-- In order: the state before the first line; what the reading of all lines promises; the feed's words, written one behind the other; what the
+-- reading of a sheet promises.
 -- Assumes nothing.
-use Prim.Native.Nat.{ℕ, _+_, _≤_}
+use Prim.Native.Nat.{ℕ, _+_, _*_, _/_, _≤_}
 use mathlib.Core.Path.{_≡_}
 use mathlib.Core.Bool.{false}
-use mathlib.Core.List.{List, [], _∷_, _++_, map, flatMap}
+use mathlib.Core.List.{List}
 use lib.ListN.{length, take}
-use Rattle.tables.specs.declared.Pair.{Pair}
-use Rattle.tables.specs.Lists.{below}
-use Rattle.drawing.specs.declared.Node.{Node}
-use Rattle.drawing.specs.declared.Edge.{Edge}
-use Rattle.builder.specs.declared.Drawing.{Drawing}
-use Rattle.builder.specs.Builder.{emptyDrawing, view}
+use Rattle.limits.specs.Limits.{mostClasses, mostLabels, mostTables, mostNodes}
+use Rattle.answers.specs.Verdict.{Verdict, accepted, refused}
+use Rattle.answers.specs.Answers.{verdictOf}
+use Rattle.tables.specs.Order.{Table}
+use Rattle.drawing.specs.Builder.{emptyDrawing, view}
 use Rattle.sheet_text.specs.inner.Parts.{namesOf, noNames, Spans}
+use Rattle.sheet_lines.specs.declared.Tables.{Tables}
 use Rattle.sheet_lines.specs.declared.State.{State}
-use Rattle.sheet_lines.specs.Reading.{Entry, Reading}
-use Rattle.sheet_lines.specs.inner.State.{viewOf, Fine}
-use Rattle.sheet_reader.specs.Sheet.{Outcome, read, breach, readSheet, linesOf, feedWords, drawingWords}
+use Rattle.sheet_lines.specs.Reading.{Reading}
+use Rattle.sheet_lines.specs.inner.State.{entries, viewOf, lineWords, Fine, Held}
+use Rattle.sheet_reader.specs.Sheet.{Outcome, read, breach, readSheet, grouped, feedOf}
 use Rattle.sheet_reader.specs.declared.Scan.{Scan}
-use Rattle.sheet_reader.specs.declared.Found.{Found}
-use Rattle.sheet_reader.specs.declared.Found.the-variants.{Whole, Breach}
-use Rattle.sheet_reader.specs.declared.SheetWords.{SheetWords}
+use Rattle.sheet_reader.specs.declared.SheetRead.{SheetRead}
 
 unfoldable pub noState : State
 noState = record { section = 0; opened = false; classes = record { names = noNames; lines = 0 }; labels = record { names = noNames; lines = 0 }; nodes = noNames; drawing = emptyDrawing }
 
--- ---- what the reading of all lines promises
+-- "14, with the line counted from 1"
+unfoldable pub verdictIn : Outcome → Verdict
+verdictIn (read r) = accepted
+verdictIn (breach at) = refused 14 at
 
-unfoldable pub outcomeOf : Found → Reading → Outcome
-outcomeOf Whole r = read r
-outcomeOf (Breach at) r = breach at
+-- ---- all lines
 
-pub record LinesRead (s ws vs : List ℕ) (r : Scan) (outcome : Outcome) : Type 0 where
-  pub answer : outcomeOf (r .found) (viewOf s ws vs (r .state)) ≡ outcome
+-- the most lines of classes and labels together
+abbrev pub mostLines : ℕ
+mostLines = lineWords / 3
+
+-- what the lines are, and what was read, with the lines of the classes and of the labels in two slices
+pub record Scanned (s ws vs : List ℕ) (r : Scan) : Type 0 where
+  pub verdict : verdictOf (r .answer) ≡ verdictIn (readSheet s)
+  pub shown : verdictOf (r .answer) ≡ accepted → readSheet s ≡ read (viewOf s ws vs (r .state))
   pub fine : Fine s (length s + 1) (r .state)
+  pub few : r .state .classes .lines + r .state .labels .lines ≤ mostLines
 
--- ---- words written one behind the other
+-- ---- the feed
 
--- the words of a pair, a node, an edge
-abbrev pub pairWords : Pair → List ℕ
-pairWords p = p .left ∷ p .right ∷ []
+-- the tables of the lines that stand in words
+unfoldable pub tablesIn : List ℕ → Tables → List Table
+tablesIn ws t = grouped (entries ws (t .lines)) (t .names .n)
 
-abbrev pub nodeWords : Node → List ℕ
-nodeWords v = v .class ∷ v .pick ∷ []
+-- so many lines stand in the words
+pub record Lines (ws : List ℕ) (lines : ℕ) : Type 0 where
+  pub inside : 3 * lines ≤ length ws
+  pub few : lines ≤ mostLines
 
-abbrev pub edgeWords : Edge → List ℕ
-edgeWords v = v .label ∷ v .source ∷ v .target ∷ []
+-- tables whose lines stand in words, and room for xs from place `at` on
+pub record Writable (words : List ℕ) (at : ℕ) (ws : List ℕ) (t : Tables) (xs : List ℕ) : Type 0 where
+  pub lines : Lines ws (t .lines)
+  pub few : t .names .n ≤ mostLabels
+  pub room : at + length xs ≤ length words
 
--- the pairs of each of n tables
-unfoldable pub grouped : List Entry → ℕ → List (List Pair)
-grouped lines n = map (λ k. linesOf k lines) (below n)
-
--- a drawing in bounds
-pub record Drawn (d : Drawing) : Type 0 where
-  pub nodes : length (d .nodes) ≡ 12
-  pub edges : length (d .edges) ≡ 24
-  pub fewNodes : d .n ≤ 12
-  pub fewEdges : d .e ≤ 24
-
--- The most words of a feed that comes from a sheet: two, the counts of 96 tables, and 4,096 pairs. The most words of a drawing.
+-- the most words of a feed that comes from a sheet: two, the counts of all tables, and two for each line
 abbrev pub feedRoom : ℕ
-feedRoom = 8290
+feedRoom = 2 + mostTables + 2 * mostLines
 
-abbrev pub drawingRoom : ℕ
-drawingRoom = 98
+-- classes and labels whose lines stand in words, and room for their feed
+pub record Feedable (words ws vs : List ℕ) (c l : Tables) : Type 0 where
+  pub held : Held ws vs
+  pub room : feedRoom ≤ length words
+  pub classes : c .names .n ≤ mostClasses
+  pub labels : l .names .n ≤ mostLabels
+  pub few : c .lines + l .lines ≤ mostLines
 
--- a state whose feed has room
-pub record Countable (x : State) : Type 0 where
-  pub classes : x .classes .names .n ≤ 32
-  pub labels : x .labels .names .n ≤ 64
-  pub lines : x .classes .lines + x .labels .lines ≤ 4096
+-- ---- a sheet
 
--- the words of a feed with m classes and n labels, of these lines
-unfoldable pub feedOf : ℕ → ℕ → List Entry → List Entry → List ℕ
-feedOf m n cs ls =
-    let tables = grouped cs m ++ grouped ls n in
-    m ∷ n ∷ (map length tables ++ flatMap (flatMap pairWords) tables)
+pub record Lent (feed classes labels : List ℕ) : Type 0 where
+  pub held : Held classes labels
+  pub room : feedRoom ≤ length feed
 
--- the words of a drawing as it was built up
-unfoldable pub drawingOf : Drawing → List ℕ
-drawingOf d = d .n ∷ d .e ∷ (flatMap nodeWords (view d .nodes) ++ flatMap edgeWords (view d .edges))
+-- What the sheet gives: the feed's words stand in front of the slice, and the node names are parts of the sheet.
+pub record Given (s feed : List ℕ) (w : SheetRead) : Type 0 where
+  pub reading : Reading
+  pub outcome : readSheet s ≡ read reading
+  pub feeds : take (w .feed) feed ≡ feedOf reading
+  pub fits : w .feed ≤ length feed
+  pub draws : view (w .drawing) ≡ reading .drawing
+  pub names : namesOf s (w .nodes) ≡ reading .names
+  pub spans : Spans s (w .nodes) mostNodes
+  pub drawn : w .nodes .n ≡ w .drawing .n
 
--- ---- what the reading of a sheet promises
-
--- The sheet gives r. So many words of the two slices are those of its feed and of its drawing, and its node names are parts of the
--- sheet.
-pub record Given (s feed drawing : List ℕ) (w : SheetWords) (r : Reading) : Type 0 where
-  pub outcome : readSheet s ≡ read r
-  pub feeds : take (w .feed) feed ≡ feedWords r
-  pub feedFits : w .feed ≤ length feed
-  pub draws : take (w .drawing) drawing ≡ drawingWords r
-  pub drawingFits : w .drawing ≤ length drawing
-  pub names : namesOf s (w .nodes) ≡ r .names
-  pub spans : Spans s (w .nodes) 12
-  pub counted : w .nodes .n ≡ length (r .nodes)
-
--- the answer for a sheet: what it gives, or the line of its first breach
-pub data Answers (s feed drawing : List ℕ) (w : SheetWords) : Found → Type 0 where
-  whole : (r : Reading) → Given s feed drawing w r → Answers s feed drawing w Whole
-  broken : {at : ℕ} → readSheet s ≡ breach at → Answers s feed drawing w (Breach at)
+-- the answer for a sheet, and what it gives where that accepts
+pub record Answers (s feed : List ℕ) (w : SheetRead) : Type 0 where
+  pub verdict : verdictOf (w .answer) ≡ verdictIn (readSheet s)
+  pub given : verdictOf (w .answer) ≡ accepted → Given s feed w
