@@ -15,6 +15,8 @@ ghost use Rattle.drawing.specs.Drawing.{headWidth, nodeWidth, edgeWidth,
 ghost use Rattle.drawing.specs.Builder.{emptyDrawing, view, WrittenOut};
 ghost use Rattle.drawing.specs.inner.Parts.{addNodes, addEdges, Sized, Read};
 
+// ---- the layout
+
 // The counts: nodes, edges.
 pub const HEAD_WORDS: usize = 2;
 
@@ -23,12 +25,51 @@ pub const NODE_WORDS: usize = 2;
 
 pub const PICK: usize = 1;
 
+// The node whose words start at `at`.
+fn read_node(words: &[u32], at: usize) -> Node
+    requires { ⌜ at + nodeWidth ≤ length (now words) ⌝ }
+    ensures { λ r. ⌜ r ≡ nodeOf (drop at (now (words .entry))) ⌝ }
+{
+    Node {
+        class: words[at],
+        pick: words[at + PICK],
+    }
+}
+
+// Writes the words of a node from place `at` on, and gives the place behind them.
+fn write_node(words: &mut [u32], at: usize, v: Node) -> usize
+    requires { ⌜ at + nodeWidth ≤ length (now words) ⌝ }
+    ensures { λ r. ⌜ Put (now (words .entry)) (now (words .exit)) at (nodeWords v) r ⌝ }
+{
+    put_two(words, at, v.class, v.pick)
+}
+
 // An edge: label, source, target.
 pub const EDGE_WORDS: usize = 3;
 
 pub const SOURCE: usize = 1;
 
 pub const TARGET: usize = 2;
+
+// The edge whose words start at `at`.
+fn read_edge(words: &[u32], at: usize) -> Edge
+    requires { ⌜ at + edgeWidth ≤ length (now words) ⌝ }
+    ensures { λ r. ⌜ r ≡ edgeOf (drop at (now (words .entry))) ⌝ }
+{
+    Edge {
+        label: words[at],
+        source: words[at + SOURCE],
+        target: words[at + TARGET],
+    }
+}
+
+// Writes the words of an edge from place `at` on, and gives the place behind them.
+fn write_edge(words: &mut [u32], at: usize, x: Edge) -> usize
+    requires { ⌜ at + edgeWidth ≤ length (now words) ⌝ }
+    ensures { λ r. ⌜ Put (now (words .entry)) (now (words .exit)) at (edgeWords x) r ⌝ }
+{
+    put_three(words, at, x.label, x.source, x.target)
+}
 
 // ---- from words
 
@@ -51,29 +92,6 @@ pub fn right_length(words: &[u32]) -> bool
         return false;
     }
     words.len() == HEAD_WORDS + NODE_WORDS * n + EDGE_WORDS * e
-}
-
-// The node whose words start at `at`.
-fn read_node(words: &[u32], at: usize) -> Node
-    requires { ⌜ at + nodeWidth ≤ length (now words) ⌝ }
-    ensures { λ r. ⌜ r ≡ nodeOf (drop at (now (words .entry))) ⌝ }
-{
-    Node {
-        class: words[at],
-        pick: words[at + PICK],
-    }
-}
-
-// The edge whose words start at `at`.
-fn read_edge(words: &[u32], at: usize) -> Edge
-    requires { ⌜ at + edgeWidth ≤ length (now words) ⌝ }
-    ensures { λ r. ⌜ r ≡ edgeOf (drop at (now (words .entry))) ⌝ }
-{
-    Edge {
-        label: words[at],
-        source: words[at + SOURCE],
-        target: words[at + TARGET],
-    }
 }
 
 // The n nodes of words with e edges behind them.
@@ -131,7 +149,7 @@ fn write_nodes(words: &mut [u32], at: usize, d: Drawing) -> usize
     let mut i = 0;
     while i < n {
         let v = d.nodes[i];
-        out = put_two(words, out, v.class, v.pick);
+        out = write_node(words, out, v);
         i += 1;
     }
     out
@@ -147,7 +165,7 @@ fn write_edges(words: &mut [u32], at: usize, d: Drawing) -> usize
     let mut i = 0;
     while i < e {
         let x = d.edges[i];
-        out = put_three(words, out, x.label, x.source, x.target);
+        out = write_edge(words, out, x);
         i += 1;
     }
     out

@@ -26,9 +26,9 @@ loop-holds : tie.Need-loop-holds Inv-loop μ-loop
 unfolding view
 loop-holds c = let s = c .before .before in let f = few (s .args .t3) (roomy _ (s .good .1 .1 .0)) in (omega arith, c .edge-count .ensures, omega (arith, f .edges), putting-start _ _ _)
 
-put-three-requires : tie.Need-put-three-requires Inv-loop μ-loop
+write-edge-requires : tie.Need-write-edge-requires Inv-loop μ-loop
 unfolding view edgeWords
-put-three-requires c κs =
+write-edge-requires c κs =
     let head = c .before .before .before in
     let s = head .before .before .before in
     let d = s .args .t3 in
@@ -43,7 +43,7 @@ loop-again c =
     let head = put .before .before .before .before in
     let d = head .before .before .before .args .t3 in
     let next = words-next edgeWords (d .e) (d .edges) (head .loop .i) noEdge (omega (arith, head .loop .inv .1)) in
-    (omega arith, head .loop .inv .1, head .loop .inv .2, putting-more next (head .loop .inv .3) (put .put-three .ensures))
+    (omega arith, head .loop .inv .1, head .loop .inv .2, putting-more next (head .loop .inv .3) (put .write-edge .ensures))
 
 same-length : tie.Need-same-length Inv-loop μ-loop
 same-length c = c .before .loop .inv .3 .size
@@ -62,7 +62,7 @@ write-edges-spec =
     loop-holds
     (λ c. omega arith)
     (λ c. omega arith)
-    put-three-requires
+    write-edge-requires
     (λ c. omega arith)
     (λ c. omega arith)
     loop-again

@@ -26,9 +26,9 @@ loop-holds : tie.Need-loop-holds Inv-loop μ-loop
 unfolding view
 loop-holds c = let s = c .before .before in let f = few (s .args .t3) (roomy _ (s .good .1 .1 .0)) in (omega arith, c .node-count .ensures, omega (arith, f .nodes), putting-start _ _ _)
 
-put-two-requires : tie.Need-put-two-requires Inv-loop μ-loop
+write-node-requires : tie.Need-write-node-requires Inv-loop μ-loop
 unfolding view nodeWords
-put-two-requires c κs =
+write-node-requires c κs =
     let head = c .before .before .before in
     let s = head .before .before .before in
     let d = s .args .t3 in
@@ -43,7 +43,7 @@ loop-again c =
     let head = put .before .before .before .before in
     let d = head .before .before .before .args .t3 in
     let next = words-next nodeWords (d .n) (d .nodes) (head .loop .i) noNode (omega (arith, head .loop .inv .1)) in
-    (omega arith, head .loop .inv .1, head .loop .inv .2, putting-more next (head .loop .inv .3) (put .put-two .ensures))
+    (omega arith, head .loop .inv .1, head .loop .inv .2, putting-more next (head .loop .inv .3) (put .write-node .ensures))
 
 same-length : tie.Need-same-length Inv-loop μ-loop
 same-length c = c .before .loop .inv .3 .size
@@ -62,7 +62,7 @@ write-nodes-spec =
     loop-holds
     (λ c. omega arith)
     (λ c. omega arith)
-    put-two-requires
+    write-node-requires
     (λ c. omega arith)
     (λ c. omega arith)
     loop-again
