@@ -1,15 +1,11 @@
 // The sheet program: reads a sheet from standard input and prints its listing. Where the input cannot be read it prints nothing; that, or a
 // listing that could not be written whole, it says on standard error.
 
+use sheet::DECIDING_BYTES;
+use sheet::LONGEST_LISTING;
 use sheet::sheet_query;
 ghost use lib.ListN.{length, take};
 ghost use Rattle.match_sheet.specs.Program.{Within, Room, Lists};
-
-// As many bytes as decide a listing: one more than a sheet may have.
-const DECIDING: usize = 16385;
-
-// No listing is longer: 12 names of 12 letters, 4,096 row words of 5 digits, and a space or a line feed behind each.
-const LONGEST: usize = 24732;
 
 enum Input {
     // So many bytes were read.
@@ -46,13 +42,13 @@ fn list(listing: &mut [u8], input: &[u8], n: usize) -> usize
 }
 
 fn main() {
-    let mut input = [0u8; DECIDING];
+    let mut input = [0u8; DECIDING_BYTES];
     match read_input(&mut input) {
         Input::Failed => {
             io::write_all(2, b"match_sheet: cannot read standard input\n");
         }
         Input::Read(n) => {
-            let mut listing = [0u8; LONGEST];
+            let mut listing = [0u8; LONGEST_LISTING];
             let m = list(&mut listing, &input, n);
             if io::write_all(1, &listing[0..m]) {
                 return;

@@ -11,29 +11,29 @@ use mathlib.Core.Bool.{Bool, true, false, cond}
 use mathlib.Core.Path.{_≡_, refl, sym, ap, _∙_}
 use mathlib.Core.List.{List, [], _∷_, map, flatMap, List·Memᴰ·head as here, List·Memᴰ·tail as there, List·Memᴰ·not-nil}
 use lib.Dec.{leb, ltb}
-use lib.ListN.{length, getD, take, drop, length-append, length-map, length-take, length-replicate}
+use lib.ListN.{length, getD, take, drop, length-append, length-map, length-take}
 use lib.Seq.{take-all, take-append-seam}
 use borrow.Author.Tests.{lt-ltb, le-ltb, le-leb}
+use Rattle.limits.specs.Limits.{largestObject, mostNodes, mostBytes, mostLetters, mostDigits}
 use Rattle.tables.specs.Lists.{_∈_}
-use Rattle.answers.specs.Verdict.{Verdict, accepted, refused}
+use Rattle.answers.specs.Verdict.{Verdict, accepted, refused, number, location}
 use Rattle.tables.proofs.Members.{in-map, in-at, at-less, at-getD}
 use Rattle.tables.proofs.Tests.{decide, leb-is}
 use Rattle.feed.specs.Feed.{checkFeed}
 use Rattle.feed.proofs.Feed.{class-sides, class-sound}
 use Rattle.drawing.specs.declared.Node.{Node}
-use Rattle.drawing.specs.Drawing.{Pattern, node, isPicked, patternOf}
+use Rattle.drawing.specs.Drawing.{Pattern, node, isPicked, drawingWords}
 use Rattle.drawing.specs.Embeddings.{picked, rows}
 use Rattle.drawing.proofs.Checks.{drawing-feed}
 use Rattle.drawing.proofs.Embeddings.{in-rows}
 use Rattle.query.specs.Query.{pickCount, query}
 use Rattle.sheet_text.specs.Text.{bytes, digits, digitsBefore}
-use Rattle.sheet_lines.specs.Reading.{Reading}
-use Rattle.sheet_reader.specs.Sheet.{Outcome, readSheet, feedWords, drawingWords}
+use Rattle.sheet_reader.specs.Sheet.{Outcome, readSheet, feedOf}
 use Rattle.sheet_reader.proofs.Words.{sheet-long}
 use Rattle.sheet_listing.specs.Listing.{line, pickedNames, listing, refusal, Listed, listedIn, listed}
 use Rattle.sheet_listing.specs.inner.Written.{rowLines}
-use Rattle.sheet.specs.SheetQuery.{ownSlices, answerText, outcomeText, sheetListing, sheetQuery, longestListing, decidingBytes}
-use Rattle.sheet.proofs.NodeNames.{Shorter, Few, Sheet, broken, whole, sheet-few}
+use Rattle.sheet.specs.SheetQuery.{ownSlices, answerText, queryText, outcomeText, sheetListing, sheetQuery, longestListing, decidingBytes}
+use Rattle.sheet.proofs.NodeNames.{Shorter, Sheet, broken, whole, sheet-few}
 use Rattle.sheet.proofs.Picks.{row-length}
 use Rattle.sheet.proofs.Printing.{drawing-accepted, rows-fit, some-pick}
 
@@ -41,9 +41,9 @@ use Rattle.sheet.proofs.Printing.{drawing-accepted, rows-fit, some-pick
 
 pub cut-same : (sheet : List ℕ) (n : ℕ) → decidingBytes ≤ n → sheetListing (take n sheet) ≡ sheetListing sheet
 unfolding sheetListing
-cut-same sheet n enough = by (decLt 16384 (length sheet))
+cut-same sheet n enough = by (decLt mostBytes (length sheet))
   where
-    by : Dec (16384 < length sheet) → outcomeText (readSheet (take n sheet)) ≡ outcomeText (readSheet sheet)
+    by : Dec (mostBytes < length sheet) → outcomeText (readSheet (take n sheet)) ≡ outcomeText (readSheet sheet)
     by (yes h) = let l = length-take n sheet in ap outcomeText (sheet-long (take n sheet) (omega arith) ∙ sym (sheet-long sheet h))
     by (no h) = ap (λ (s : List ℕ). outcomeText (readSheet s)) (take-all n sheet (omega arith))
 
@@ -70,7 +70,7 @@ before-most (suc most) n after = by (ltb n 10) (before-most most (n / 10) ((48 +
     by true h = omega arith
     by false h = omega arith
 
-object-digits : (n : ℕ) → n ≤ 65535 → length (digits n) ≤ 5
+object-digits : (n : ℕ) → n ≤ largestObject → length (digits n) ≤ mostDigits
 unfolding digits
 object-digits n h = let d = before-few 10 4 n [] (omega arith) in omega arith
 
@@ -118,22 +118,22 @@ picked-shorter w (n ∷ ns) (v ∷ vs) h = by (isPicked v) (picked-shorter w ns 
         one (there m) = rest _ m
     by false rest = rest
 
-names-size : (ns : List (List ℕ)) (vs : List Node) → length ns ≤ 12 → Shorter 13 ns → length (line (pickedNames ns vs)) ≤ 156
+names-size : (ns : List (List ℕ)) (vs : List Node) → length ns ≤ mostNodes → Shorter (mostLetters + 1) ns → length (line (pickedNames ns vs)) ≤ mostNodes * (mostLetters + 1)
 unfolding line
-names-size ns vs few short = by (pickedNames ns vs) (picked-few ns vs) (picked-shorter 13 ns vs short)
+names-size ns vs few short = by (pickedNames ns vs) (picked-few ns vs) (picked-shorter (mostLetters + 1) ns vs short)
   where
-    by : (fs : List (List ℕ)) → length fs ≤ length ns → Shorter 13 fs → length (line fs) ≤ 156
+    by : (fs : List (List ℕ)) → length fs ≤ length ns → Shorter (mostLetters + 1) fs → length (line fs) ≤ mostNodes * (mostLetters + 1)
     by [] l h = omega arith
-    by (f ∷ fs) l h = let s = line-size 13 f fs h in omega arith
+    by (f ∷ fs) l h = let s = line-size (mostLetters + 1) f fs h in omega arith
 
 -- ---- the lines of rows
 
 -- a row of objects, one for each pick
 record Row (picks : ℕ) (r : List ℕ) : Type 0 where
   size : length r ≡ picks
-  objects : (x : ℕ) → x ∈ r → x ≤ 65535
+  objects : (x : ℕ) → x ∈ r → x ≤ largestObject
 
-digits-shorter : (r : List ℕ) → ((x : ℕ) → x ∈ r → x ≤ 65535) → Shorter 6 (map digits r)
+digits-shorter : (r : List ℕ) → ((x : ℕ) → x ∈ r → x ≤ largestObject) → Shorter (mostDigits + 1) (map digits r)
 unfolding Shorter
 digits-shorter r h f m =
     let x = in-map digits r .0 m in
@@ -141,14 +141,14 @@ digits-shorter r h f m =
     let e = ap length (x .2) in
     omega arith
 
-row-size : (picks : ℕ) (r : List ℕ) → 1 ≤ picks → Row picks r → length (line (map digits r)) ≤ 6 * picks
+row-size : (picks : ℕ) (r : List ℕ) → 1 ≤ picks → Row picks r → length (line (map digits r)) ≤ (mostDigits + 1) * picks
 row-size picks [] p row = absurd (omega (arith, row .size))
 row-size picks (x ∷ xs) p row =
-    let s = line-size 6 (digits x) (map digits xs) (digits-shorter (x ∷ xs) (row .objects)) in
+    let s = line-size (mostDigits + 1) (digits x) (map digits xs) (digits-shorter (x ∷ xs) (row .objects)) in
     let l = length-map xs digits in
     omega (arith, row .size)
 
-rows-size : (picks : ℕ) (found : List (List ℕ)) → 1 ≤ picks → ((r : List ℕ) → r ∈ found → Row picks r) → length (rowLines found) ≤ 6 * (length found * picks)
+rows-size : (picks : ℕ) (found : List (List ℕ)) → 1 ≤ picks → ((r : List ℕ) → r ∈ found → Row picks r) → length (rowLines found) ≤ (mostDigits + 1) * (length found * picks)
 unfolding flatMap
 rows-size picks [] p h = omega arith
 rows-size picks (r ∷ rs) p h =
@@ -177,7 +177,7 @@ module _ (feed : List ℕ) (p : Pattern) (ok : checkFeed feed ≡ accepted) wher
   rows-of-objects : (r : List ℕ) → r ∈ rows feed p → Row (pickCount p) r
   rows-of-objects r m = record { size = row-length feed p (λ k u v n. class-sides feed ok k n) r m; objects = λ x n. small x n }
     where
-      small : (x : ℕ) → x ∈ r → x ≤ 65535
+      small : (x : ℕ) → x ∈ r → x ≤ largestObject
       small x n =
           let t = in-rows feed p (λ k u v n. class-sides feed ok k n) {r = r} .0 m in
           let i = in-at (picked-among (p .nodes) (t .0) (rw (t .2) at n)) in
@@ -187,47 +187,39 @@ module _ (feed : List ℕ) (p : Pattern) (ok : checkFeed feed ≡ accepted) wher
 
 -- ---- the listing of a sheet
 
-refusal-size : (n p : ℕ) → length (refusal n p) ≤ longestListing
+refusal-size : (v : Verdict) → length (refusal v) ≤ longestListing
 unfolding refusal bytes Shorter
-refusal-size n p =
-    let s = line-size 11 (bytes "refused") (digits n ∷ digits p ∷ []) (λ f m. short m) in
+refusal-size v =
+    let s = line-size 11 (bytes "refused") (digits (number v) ∷ digits (location v) ∷ []) (λ f m. short m) in
     omega arith
   where
-    short : {f : List ℕ} → f ∈ (bytes "refused" ∷ digits n ∷ digits p ∷ []) → length f < 11
+    short : {f : List ℕ} → f ∈ (bytes "refused" ∷ digits (number v) ∷ digits (location v) ∷ []) → length f < 11
     short (here e) = let l = ap length e in omega arith
-    short (there (here e)) = let l = ap length e in let d = word-digits n in omega arith
-    short (there (there (here e))) = let l = ap length e in let d = word-digits p in omega arith
+    short (there (here e)) = let l = ap length e in let d = word-digits (number v) in omega arith
+    short (there (there (here e))) = let l = ap length e in let d = word-digits (location v) in omega arith
 
-own-rows : length (ownSlices .out) ≡ 4096
-unfolding ownSlices
-own-rows = length-replicate {A = ℕ} 4096 0
-
-module _ {r : Reading} (g : Few r) where
-  text-size : query (feedWords r) (drawingWords r) ownSlices .verdict ≡ accepted
-      → length (listing (pickedNames (r .names) (r .nodes)) (rows (feedWords r) (patternOf (drawingWords r)))) ≤ longestListing
+module _ (names : List (List ℕ)) (feed : List ℕ) (p : Pattern) (few : length names ≤ mostNodes) (short : Shorter (mostLetters + 1) names) where
+  text-size : query feed (drawingWords p) ownSlices .verdict ≡ accepted → length (listing (pickedNames names (p .nodes)) (rows feed p)) ≤ longestListing
   unfolding listing
   text-size ok =
-      let feed = feedWords r in
-      let p = patternOf (drawingWords r) in
-      let names = names-size (r .names) (r .nodes) (omega (arith, g .each, g .few)) (g .short) in
-      let objects = rows-of-objects feed p (drawing-feed feed (drawingWords r) (drawing-accepted feed (drawingWords r) ownSlices ok)) in
-      let lines = rows-size (pickCount p) (rows feed p) (some-pick feed (drawingWords r) ownSlices ok) objects in
-      let fit = rows-fit feed (drawingWords r) ownSlices ok in
-      let a = length-append (line (pickedNames (r .names) (r .nodes))) (rowLines (rows feed p)) in
-      omega (arith, own-rows)
+      let size = names-size names (p .nodes) few short in
+      let objects = rows-of-objects feed p (drawing-feed feed (drawingWords p) (drawing-accepted feed p ok)) in
+      let lines = rows-size (pickCount p) (rows feed p) (some-pick feed p ok) objects in
+      let a = length-append (line (pickedNames names (p .nodes))) (rowLines (rows feed p)) in
+      omega (arith, rows-fit feed p ok)
 
-  answer-size : (v : Verdict) → query (feedWords r) (drawingWords r) ownSlices .verdict ≡ v → length (answerText v r) ≤ longestListing
+  answer-size : (v : Verdict) → query feed (drawingWords p) ownSlices .verdict ≡ v → length (answerText v names feed p) ≤ longestListing
   unfolding answerText
   answer-size accepted e = text-size e
-  answer-size (refused n p) e = refusal-size n p
+  answer-size (refused n l) e = refusal-size (refused n l)
 
 pub listing-fits : (sheet : List ℕ) → length (sheetListing sheet) ≤ longestListing
-unfolding sheetListing outcomeText
+unfolding sheetListing outcomeText queryText
 listing-fits sheet = by (sheet-few sheet)
   where
     by : {o : Outcome} → Sheet o → length (outcomeText o) ≤ longestListing
-    by (broken {at = at}) = refusal-size 14 at
-    by (whole g) = answer-size g _ refl
+    by (broken {at = at}) = refusal-size (refused 14 at)
+    by (whole {r = r} g) = answer-size (r .names) (feedOf r) (r .drawing) (omega (arith, g .each, g .few)) (g .short) _ refl
 
 -- ---- the call
 

@@ -11,6 +11,7 @@ use mathlib.Core.List.{List, [], _∷_, List·Memᴰ·not-nil, List·Memᴰ·eq-
 use mathlib.Core.Option.{Option, none, some}
 use lib.Dec.{eqb, leb}
 use lib.ListN.{length, getD, length-append}
+use Rattle.limits.specs.Limits.{mostNodes, mostBytes, mostLetters}
 use Rattle.tables.specs.Lists.{_∈_}
 use Rattle.tables.proofs.Members.{in-append}
 use Rattle.tables.proofs.Tests.{both-true, leb-is, ltb-is}
@@ -25,9 +26,9 @@ Shorter w fs = (f : List ℕ) → f ∈ fs → length f < w
 
 -- at most 12 names of at most 12 letters, one for each node
 pub record Few (r : Reading) : Type 0 where
-  pub each : length (r .names) ≡ length (r .nodes)
-  pub few : length (r .nodes) ≤ 12
-  pub short : Shorter 13 (r .names)
+  pub each : length (r .names) ≡ length (r .drawing .nodes)
+  pub few : length (r .drawing .nodes) ≤ mostNodes
+  pub short : Shorter (mostLetters + 1) (r .names)
 
 few-nothing : Few nothing
 unfolding nothing Shorter
@@ -45,19 +46,19 @@ unfolding allow
 allowed true r h = passes (h refl)
 allowed false r h = breaks
 
-name-short : (n : List ℕ) → isName n ≡ true → length n < 13
+name-short : (n : List ℕ) → isName n ≡ true → length n < mostLetters + 1
 unfolding isName within
 name-short n t =
-    let w = both-true (leb 1 (length n) && leb (length n) 12) _ .0 t .0 in
-    let l = leb-is (length n) 12 .0 (both-true (leb 1 (length n)) (leb (length n) 12) .0 w .1) in
+    let w = both-true (leb 1 (length n) && leb (length n) mostLetters) _ .0 t .0 in
+    let l = leb-is (length n) mostLetters .0 (both-true (leb 1 (length n)) (leb (length n) mostLetters) .0 w .1) in
     omega arith
 
 module _ {r : Reading} (g : Few r) where
-  few-node : (n : List ℕ) (v : Node) → isName n ≡ true → length (r .nodes) < 12 → Few (withNode n v r)
+  few-node : (n : List ℕ) (v : Node) → isName n ≡ true → length (r .drawing .nodes) < mostNodes → Few (withNode n v r)
   unfolding withNode Shorter
   few-node n v name l =
       let a = length-append (r .names) (n ∷ []) in
-      let b = length-append (r .nodes) (v ∷ []) in
+      let b = length-append (r .drawing .nodes) (v ∷ []) in
       record {
         each = omega (arith, g .each);
         few = omega arith;
@@ -155,7 +156,7 @@ lines-few at g s (next ∷ ss) = continued at (line-few g s) (λ r h. lines-few 
 
 pub sheet-few : (s : List ℕ) → Sheet (readSheet s)
 unfolding readSheet
-sheet-few s = by (leb (length s) 16384)
+sheet-few s = by (leb (length s) mostBytes)
   where
     by : (b : Bool) → Sheet (cond b (readLines 1 nothing (split 10 s .first) (split 10 s .rest)) (breach 0))
     by true = lines-few 1 few-nothing (split 10 s .first) (split 10 s .rest)

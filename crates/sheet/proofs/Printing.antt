@@ -1,147 +1,131 @@
 -- Printing: what the sheet query prints, from the answers of its parts.
 --
--- In order: the nodes of a drawing; a query that accepts; its drawing, and its rows as words; the listing of an answer, of a refusal; a sheet read to its end, a sheet
--- with a breach.
+-- In order: a query that accepts, its picks and its rows; the question; the listing of an answer, of a refusal; a sheet.
 -- Assumes nothing.
 use Prim.Native.Nat.{ℕ, _*_, _-_, _≤_}
 use native.Mathlib.Omega.{arith}
 use mathlib.Core.Bool.{true, false}
 use mathlib.Core.Path.{_≡_, refl, sym, ap, _∙_}
 use mathlib.Core.List.{List, [], _∷_}
-use lib.ListN.{length, take, drop}
-use lib.Seq.{take-append-seam}
+use lib.ListN.{length, take, length-replicate}
+use Rattle.limits.specs.Limits.{mostInstructions, mostListWords, sheetRows}
+use Rattle.answers.specs.Verdict.{Verdict, accepted, refused, isAccepted}
+use Rattle.answers.specs.Answers.{verdictOf}
+use Rattle.answers.proofs.Verdict.{accepted-is, then-accepted}
 use Rattle.tables.specs.Lists.{_∈_}
 use Rattle.tables.specs.Order.{Table}
-use Rattle.answers.specs.Verdict.{Verdict, accepted, refused, number, location, _then_, isAccepted}
 use Rattle.tables.proofs.Members.{any-true, in-keep}
-use Rattle.tables.proofs.Tests.{true-not-false, leb-is}
-use Rattle.answers.proofs.Verdict.{accepted-is, then-accepted, unless-accepted}
+use Rattle.tables.proofs.Tests.{true-not-false}
 use Rattle.feed.proofs.Feed.{class-sides}
 use Rattle.drawing.specs.declared.Node.{Node}
-use Rattle.drawing.specs.Drawing.{Pattern, patternOf, nodeCount, isPicked, checkLength, checkDrawing}
+use Rattle.drawing.specs.Drawing.{Pattern, drawingWords, isPicked, checkDrawing}
+use Rattle.drawing.specs.Builder.{view}
 use Rattle.drawing.specs.Embeddings.{rows}
+use Rattle.drawing.proofs.Encoding.{pattern-back}
 use Rattle.drawing.proofs.Checks.{drawing-feed, drawing-checked}
-use Rattle.drawing.proofs.Words.{lengths}
 use Rattle.algebra.specs.Instructions.{Instruction}
-use Rattle.translator.specs.Translation.{translation, checkList}
-use Rattle.query_rows.specs.Rows.{rowWords, checkRows}
-use Rattle.query.specs.Query.{Answer, Lent, pickCount, answer, query}
-use Rattle.query.specs.Answers.{queryVerdict, extentIn, slices, Answers}
-use Rattle.query.specs.declared.QueryCheck.{QueryCheck}
-use Rattle.sheet_text.specs.declared.Names.{Names}
+use Rattle.query_rows.specs.declared.Given.{Given}
+use Rattle.query.specs.Query.{Lent, pickCount, answer, query}
+use Rattle.query.specs.Answers.{slices, Answers as Queried}
+use Rattle.query.specs.Demand.{ThirdDemand}
+use Rattle.query.proofs.Answers.{extent-inside}
+use Rattle.query.proofs.Demand.{third-demand}
 use Rattle.sheet_text.specs.inner.Parts.{namesOf}
-use Rattle.sheet_lines.specs.Reading.{Reading}
-use Rattle.sheet_reader.specs.declared.SheetWords.{SheetWords}
-use Rattle.sheet_reader.specs.inner.Answers.{Given}
-use Rattle.sheet_reader.specs.Sheet.{readSheet, breach, feedWords, drawingWords}
-use Rattle.sheet_reader.proofs.Words.{pattern-back}
+use Rattle.sheet_reader.specs.declared.SheetRead.{SheetRead}
+use Rattle.sheet_reader.specs.Sheet.{Outcome, read, breach, readSheet}
+use Rattle.sheet_reader.specs.inner.Answers.{verdictIn, Given as Read, Answers}
 use Rattle.sheet_listing.specs.Listing.{pickedNames, listing, refusal, listedIn}
-use Rattle.sheet_listing.specs.inner.Written.{rowsOf}
-use Rattle.sheet.specs.SheetQuery.{ownSlices, answerText, outcomeText, sheetListing, sheetQuery}
-use Rattle.sheet.specs.inner.Printing.{Fresh, refusalOf, textBy, wordsText}
+use Rattle.sheet_listing.specs.inner.Written.{rowsOf, Named}
+use Rattle.sheet.specs.SheetQuery.{ownSlices, answerText, queryText, outcomeText, sheetListing, sheetQuery}
+use Rattle.sheet.specs.inner.Printing.{Asked}
 use Rattle.sheet.proofs.Picks.{rows-back}
-
--- ---- the nodes of a drawing whose length is right
-
-pub few-nodes : (drawing : List ℕ) → checkLength drawing ≡ accepted → nodeCount drawing ≤ 12
-few-nodes drawing h = lengths drawing h .fewNodes
 
 -- ---- a query that accepts
 
-record Passed (u w : Verdict) (a : Answer) (found : List (List ℕ)) : Type 0 where
-  before : u ≡ accepted
-  fit : w ≡ accepted
-  words : take (a .extent) (a .out) ≡ rowWords found
+begun : (u v w : Verdict) (s : Lent) (code : List Instruction) (tables : List Table) (found : List (List ℕ)) → answer u v w s code tables found .verdict ≡ accepted → u ≡ accepted
+unfolding answer
+begun accepted v w s code tables found e = refl
+begun (refused n p) v w s code tables found e = cc
 
-passed : (u v w : Verdict) (s : Lent) (code : List Instruction) (tables : List Table) (found : List (List ℕ))
-    → answer u v w s code tables found .verdict ≡ accepted → Passed u w (answer u v w s code tables found) found
-unfolding answer isAccepted
-passed (refused n p) v w s code tables found e = absurd (true-not-false refl (sym (ap isAccepted e)))
-passed accepted (refused n p) w s code tables found e = absurd (true-not-false refl (sym (ap isAccepted e)))
-passed accepted accepted (refused n p) s code tables found e = absurd (true-not-false refl (sym (ap isAccepted e)))
-passed accepted accepted accepted s code tables found e = record { before = refl; fit = refl; words = take-append-seam (rowWords found) (drop (length (rowWords found)) (s .out)) }
+own-list : 3 * mostInstructions ≤ length (ownSlices .list)
+unfolding ownSlices
+own-list = omega (arith, length-replicate {A = ℕ} mostListWords 0)
 
-module _ (feed drawing : List ℕ) (s : Lent) (ok : query feed drawing s .verdict ≡ accepted) where
-  all-passed : Passed (checkDrawing feed drawing then checkList (s .list) (translation (patternOf drawing) .code)) (checkRows (s .out) (pickCount (patternOf drawing)) (rows feed (patternOf drawing)))
-      (query feed drawing s) (rows feed (patternOf drawing))
+own-rows : length (ownSlices .out) ≡ sheetRows
+unfolding ownSlices
+own-rows = length-replicate {A = ℕ} sheetRows 0
+
+module _ (feed : List ℕ) (p : Pattern) (ok : query feed (drawingWords p) ownSlices .verdict ≡ accepted) where
+  pub drawing-accepted : checkDrawing feed (drawingWords p) ≡ accepted
   unfolding query
-  all-passed = passed _ _ _ s _ _ _ ok
+  drawing-accepted = then-accepted (checkDrawing feed (drawingWords p)) _ .0 (begun _ _ _ ownSlices _ _ _ ok) .0
 
-  pub drawing-accepted : checkDrawing feed drawing ≡ accepted
-  drawing-accepted = then-accepted (checkDrawing feed drawing) _ .0 (all-passed .before) .0
+  demand : ThirdDemand feed (drawingWords p) ownSlices
+  demand = third-demand feed (drawingWords p) ownSlices drawing-accepted own-list
 
-  pub rows-fit : length (rows feed (patternOf drawing)) * pickCount (patternOf drawing) ≤ length (s .out)
-  unfolding checkRows
-  rows-fit = simp (unless-accepted, leb-is) at (all-passed .fit)
+  pub rows-fit : length (rows feed p) * pickCount p ≤ sheetRows
+  rows-fit = let h = rw (pattern-back p) at (demand .accepts .0 ok .1) in omega (arith, own-rows)
 
-  pub some-pick : 1 ≤ pickCount (patternOf drawing)
+  pub some-pick : 1 ≤ pickCount p
   unfolding pickCount
   some-pick =
-      let v = any-true isPicked (patternOf drawing .nodes) .0 (drawing-checked feed drawing drawing-accepted .somePick) in
-      some (in-keep isPicked (patternOf drawing .nodes) .1 (v .1, v .2))
+      let any = rw (pattern-back p) at (drawing-checked feed (drawingWords p) drawing-accepted .somePick) in
+      let v = any-true isPicked (p .nodes) .0 any in
+      some (in-keep isPicked (p .nodes) .1 (v .1, v .2))
     where
       some : {x : Node} {xs : List Node} → x ∈ xs → 1 ≤ length xs
       some {xs = []} m = elim m [ ]
       some {xs = y ∷ ys} m = omega arith
 
-  pub rows-are : rowsOf (pickCount (patternOf drawing)) (take (query feed drawing s .extent) (query feed drawing s .out)) ≡ rows feed (patternOf drawing)
+  pub rows-are : rowsOf (pickCount p) (take (query feed (drawingWords p) ownSlices .extent) (query feed (drawingWords p) ownSlices .out)) ≡ rows feed p
   rows-are =
-      ap (rowsOf (pickCount (patternOf drawing))) (all-passed .words)
-      ∙ rows-back feed (patternOf drawing) (λ k u v m. class-sides feed (drawing-feed feed drawing drawing-accepted) k m) some-pick
+      ap (rowsOf (pickCount p)) (demand .given ok) ∙ rw (pattern-back p) (rows-back feed p (λ k u v m. class-sides feed (drawing-feed feed (drawingWords p) drawing-accepted) k m) some-pick)
+
+-- ---- the question, with the sheet query's slices
+
+pub own-slices : {rows₀ : List ℕ} → rows₀ ≡ ownSlices .out → slices (ownSlices .list) (ownSlices .work) rows₀ ≡ ownSlices
+own-slices e = rw e
+
+pub asked : {feed list₁ work₁ rows₁ : List ℕ} {before : Lent} {p : Pattern} {r : Given} → before ≡ ownSlices → Queried feed (drawingWords p) before (slices list₁ work₁ rows₁) r → Asked feed p rows₁ r
+asked own a =
+    let b = rw own at a in
+    record { verdict = b .verdict; out = b .out; extent = b .extent; inside = extent-inside a }
 
 -- ---- the listing of an answer, of a refusal
 
-refused-text : (v : Verdict) (text : List ℕ) → isAccepted v ≡ false → refusalOf v ≡ textBy v text
-unfolding refusalOf textBy number location isAccepted
-refused-text accepted text h = absurd (true-not-false refl h)
-refused-text (refused n p) text h = refl
+refused-text : (v : Verdict) (names : List (List ℕ)) (feed : List ℕ) (p : Pattern) → isAccepted v ≡ false → refusal v ≡ answerText v names feed p
+unfolding answerText isAccepted
+refused-text accepted names feed p h = absurd (true-not-false refl h)
+refused-text (refused n l) names feed p h = refl
 
-module _ {feed drawing list₀ work₀ rows₀ list₁ work₁ rows₁ : List ℕ} {c : QueryCheck} (own : Fresh list₀ work₀ rows₀)
-    (a : Answers feed drawing (slices list₀ work₀ rows₀) (slices list₁ work₁ rows₁) c) where
-  fresh-verdict : queryVerdict c ≡ query feed drawing ownSlices .verdict
-  fresh-verdict = a .verdict ∙ ap (λ (s : Lent). query feed drawing s .verdict) (own .own)
+module _ {feed rows₁ : List ℕ} {p : Pattern} {r : Given} (a : Asked feed p rows₁ r) (names : List (List ℕ)) (out : List ℕ) where
+  pub rows-listed : {picks : ℕ} → isAccepted (verdictOf (r .answer)) ≡ true → picks ≡ pickCount p
+      → listedIn (listing (pickedNames names (p .nodes)) (rowsOf picks (take (r .extent) rows₁))) out ≡ listedIn (queryText names feed p) out
+  unfolding queryText answerText
+  rows-listed t e = let ok = sym (a .verdict) ∙ accepted-is _ t in rw (e, ok, a .extent, a .out, rows-are feed p ok)
 
-  module _ (yes′ : isAccepted (queryVerdict c) ≡ true) where
-    pub accepts-all : query feed drawing (slices list₀ work₀ rows₀) .verdict ≡ accepted
-    accepts-all = sym (a .verdict) ∙ accepted-is _ yes′
-
-    pub text-rows : (sheet : List ℕ) (names : Names) {n : ℕ} → n ≡ extentIn c
-        → listing (pickedNames (namesOf sheet names) (patternOf drawing .nodes)) (rowsOf (pickCount (patternOf drawing)) (take n rows₁)) ≡ wordsText sheet names feed drawing
-    unfolding wordsText textBy
-    text-rows sheet names e =
-        let v : query feed drawing ownSlices .verdict ≡ accepted = sym fresh-verdict ∙ accepted-is _ yes′ in
-        rw (v, e, a .extent, a .out) (ap (listing (pickedNames (namesOf sheet names) (patternOf drawing .nodes))) (rows-are feed drawing (slices list₀ work₀ rows₀) accepts-all))
-
-  pub text-refusal : (sheet : List ℕ) (names : Names) → isAccepted (queryVerdict c) ≡ false → refusalOf (queryVerdict c) ≡ wordsText sheet names feed drawing
-  unfolding wordsText
-  text-refusal sheet names not = rw (← fresh-verdict) (refused-text (queryVerdict c) _ not)
+  pub refusal-listed : isAccepted (verdictOf (r .answer)) ≡ false → listedIn (refusal (verdictOf (r .answer))) out ≡ listedIn (queryText names feed p) out
+  unfolding queryText
+  refusal-listed t = rw (← a .verdict, refused-text (verdictOf (r .answer)) names feed p t)
 
 -- ---- a sheet
 
-nodes-are : (r : Reading) → patternOf (drawingWords r) .nodes ≡ r .nodes
-nodes-are r = ap (λ (p : Pattern). p .nodes) (pattern-back r)
+module _ {s feed : List ℕ} {w : SheetRead} (a : Answers s feed w) where
+  pub sheet-given : isAccepted (verdictOf (w .answer)) ≡ true → Read s feed w
+  sheet-given t = a .given (accepted-is _ t)
 
-names-are : {s feed drawing : List ℕ} {w : SheetWords} {r : Reading} → Given s feed drawing w r → (v : Verdict)
-    → textBy v (listing (pickedNames (namesOf s (w .nodes)) (patternOf (drawingWords r) .nodes)) (rows (feedWords r) (patternOf (drawingWords r)))) ≡ answerText v r
-unfolding textBy answerText
-names-are {r = r} g accepted = rw (g .names, nodes-are r)
-names-are g (refused n p) = refl
+  pub sheet-refused : (out : List ℕ) → isAccepted (verdictOf (w .answer)) ≡ false → listedIn (refusal (verdictOf (w .answer))) out ≡ sheetQuery s out
+  unfolding sheetQuery sheetListing outcomeText verdictIn isAccepted
+  sheet-refused out t = rw (a .verdict) (by (readSheet s) (rw (a .verdict) at t))
+    where
+      by : (o : Outcome) → isAccepted (verdictIn o) ≡ false → listedIn (refusal (verdictIn o)) out ≡ listedIn (outcomeText o) out
+      by (read r) h = absurd (true-not-false refl h)
+      by (breach at) h = refl
 
-module _ {s feed drawing : List ℕ} {w : SheetWords} {r : Reading} (g : Given s feed drawing w r) where
-  part-feed : take (w .feed - 0) feed ≡ feedWords r
-  part-feed = let z : w .feed - 0 ≡ w .feed = omega arith in rw z (g .feeds)
+module _ {s feed : List ℕ} {w : SheetRead} (g : Read s feed w) where
+  pub named : Named s (w .nodes) (w .drawing)
+  named = record { spans = g .spans; each = g .drawn }
 
-  part-drawing : take (w .drawing - 0) drawing ≡ drawingWords r
-  part-drawing = let z : w .drawing - 0 ≡ w .drawing = omega arith in rw z (g .draws)
-
-  pub named : w .nodes .n ≡ nodeCount (take (w .drawing - 0) drawing)
-  unfolding nodeCount drawingWords
-  named = g .counted ∙ sym (ap nodeCount part-drawing)
-
-  pub whole-listed : (out : List ℕ) → listedIn (wordsText s (w .nodes) (take (w .feed - 0) feed) (take (w .drawing - 0) drawing)) out ≡ sheetQuery s out
-  unfolding wordsText sheetQuery sheetListing outcomeText
-  whole-listed out = rw (part-feed, part-drawing, g .outcome) (ap (λ (text : List ℕ). listedIn text out) (names-are g (query (feedWords r) (drawingWords r) ownSlices .verdict)))
-
-pub breach-listed : (s out : List ℕ) {line : ℕ} → readSheet s ≡ breach line → listedIn (refusal 14 line) out ≡ sheetQuery s out
-unfolding sheetQuery sheetListing outcomeText
-breach-listed s out e = rw e
+  pub whole-listed : (out : List ℕ) → listedIn (queryText (namesOf s (w .nodes)) (take (w .feed - 0) feed) (view (w .drawing))) out ≡ sheetQuery s out
+  unfolding sheetQuery sheetListing outcomeText
+  whole-listed out = let z : w .feed - 0 ≡ w .feed = omega arith in rw (z, g .feeds, g .draws, g .names, g .outcome)

@@ -1,67 +1,45 @@
 // The sheet query: a sheet's bytes in, a listing's bytes out.
 
-use builder::Drawing;
-use builder::read_drawing;
-use query::QueryCheck;
-use query::extent;
-use query::query_with;
-use query::say_query;
-use run::is_finished;
+use answers::accepts;
+use drawing::Drawing;
+use limits::DIGITS;
+use limits::ENDS;
+use limits::LETTERS;
+use limits::LIST_WORDS;
+use limits::NODES;
+use limits::SHEET_BYTES;
+use limits::SHEET_ROWS;
+use limits::SHEET_WORK;
+use query::query_built;
+use query_rows::Given;
+use sheet_lines::LINE_WORDS;
 use sheet_listing::write_listing;
 use sheet_listing::write_refusal;
-use sheet_reader::Found;
-use sheet_reader::SheetWords;
+use sheet_reader::FEED_WORDS;
+use sheet_reader::SheetRead;
 use sheet_reader::read_sheet;
 use sheet_text::Names;
-use translate::TranslationCheck;
-use translate::accepts;
 ghost use mathlib.Core.Path.{_≡_};
-ghost use Prim.Native.Nat.{_≤_, _<_};
-ghost use lib.ListN.{length, take};
-ghost use Rattle.answers.specs.Verdict.{accepted, isAccepted};
-ghost use Rattle.drawing.specs.Drawing.{nodeCount, patternOf, checkLength};
-ghost use Rattle.builder.specs.Builder.{view};
-ghost use Rattle.algebra.specs.Run.{roomOf};
-ghost use Rattle.run.specs.inner.Standing.{Scratch};
-ghost use Rattle.translate.specs.Answers.{translationVerdict};
+ghost use Rattle.drawing.specs.Builder.{view};
 ghost use Rattle.query.specs.Query.{pickCount};
-ghost use Rattle.query.specs.Answers.{queryVerdict};
-ghost use Rattle.sheet_text.specs.inner.Parts.{namesOf, Spans};
+ghost use Rattle.sheet_text.specs.inner.Parts.{namesOf};
 ghost use Rattle.sheet_reader.specs.inner.Answers.{Answers};
-ghost use Rattle.sheet_listing.specs.Listing.{pickedNames, listing, listedIn, listed};
-ghost use Rattle.sheet_listing.specs.inner.Written.{rowsOf};
-ghost use Rattle.sheet.specs.SheetQuery.{sheetQuery};
-ghost use Rattle.sheet.specs.inner.Printing.{Sized, Fresh, refusalOf, wordsText};
+ghost use Rattle.sheet_listing.specs.Listing.{listedIn, listed};
+ghost use Rattle.sheet_listing.specs.inner.Written.{Named};
+ghost use Rattle.sheet.specs.SheetQuery.{ownSlices, queryText, sheetQuery};
+ghost use Rattle.sheet.specs.inner.Printing.{Asked};
 
-// Whether a translation was accepted.
-fn is_done(answer: TranslationCheck) -> bool
-    ensures { λ r. ⌜ r ≡ isAccepted (translationVerdict answer) ⌝ }
-{
-    match answer {
-        TranslationCheck::Done(_) => true,
-        TranslationCheck::Drawing(d) => accepts(d),
-        TranslationCheck::Short(_) => false,
-    }
-}
+// As many bytes as decide a listing: one more than a sheet may have.
+pub const DECIDING_BYTES: usize = SHEET_BYTES + 1;
 
-// Whether a query gives rows.
-fn is_answered(answer: QueryCheck) -> bool
-    ensures { λ r. ⌜ r ≡ isAccepted (queryVerdict answer) ⌝ }
-{
-    match answer {
-        QueryCheck::Rows(_) => true,
-        QueryCheck::Translation(t) => is_done(t),
-        QueryCheck::Run(r) => is_finished(r),
-        QueryCheck::TooMany => false,
-    }
-}
+// No listing is longer: 12 names of 12 letters, 4,096 row words of 5 digits, and a space or a line feed behind each.
+pub const LONGEST_LISTING: usize = NODES * (LETTERS + 1) + SHEET_ROWS * (DIGITS + 1);
 
 // How many nodes of a drawing are picked.
 fn count_picks(d: Drawing) -> usize
-    requires { ⌜ Sized d ⌝ }
     ensures { λ r. ⌜ r ≡ pickCount (view d) ⌝ }
 {
-    let n = d.n;
+    let n = d.node_count();
     let mut c = 0;
     let mut i = 0;
     while i < n {
@@ -74,113 +52,63 @@ fn count_picks(d: Drawing) -> usize
     c
 }
 
-// Prints the rows, which are the first n words.
-fn print_rows(
-    out: &mut [u8],
-    sheet: &[u8],
-    names: Names,
-    drawing: &[u32],
-    rows: &[u32],
-    n: usize,
-) -> usize
-    requires { ⌜ checkLength (now drawing) ≡ accepted ⌝ ∗ ⌜ 1 ≤ pickCount (patternOf (now drawing)) ⌝ ∗ ⌜ Spans (now sheet) names 12 ⌝ ∗ ⌜ names .n ≡ nodeCount (now drawing) ⌝ ∗ ⌜ n ≤ length (now rows) ⌝ }
-    ensures { λ r. ⌜ listed r (now (out .exit)) ≡ listedIn (listing (pickedNames (namesOf (now (sheet .entry)) names) (patternOf (now (drawing .entry)) .nodes))
-        (rowsOf (pickCount (patternOf (now (drawing .entry)))) (take n (now (rows .entry))))) (now (out .entry)) ⌝ }
+// Asks the query, with slices of its own beside that of the rows: 16,384 work words, and room for every instruction.
+fn ask(rows: &mut [u32], feed: &[u32], d: Drawing) -> Given
+    requires { ⌜ now rows ≡ ownSlices .out ⌝ }
+    ensures { λ r. ⌜ Asked (now (feed .entry)) (view d) (now (rows .exit)) r ⌝ }
 {
-    let d = read_drawing(drawing);
-    let picks = count_picks(d);
-    write_listing(out, sheet, names, d, rows, n, picks)
-}
-
-// Prints a refusal.
-fn print_refusal(out: &mut [u8], answer: QueryCheck) -> usize
-    ensures { λ r. ⌜ listed r (now (out .exit)) ≡ listedIn (refusalOf (queryVerdict answer)) (now (out .entry)) ⌝ }
-{
-    let mut place = 0;
-    let number = say_query(answer, &mut place);
-    write_refusal(out, number, place)
-}
-
-// Asks the query that a sheet's words make, and prints its answer.
-fn print_answer(
-    out: &mut [u8],
-    list: &mut [u32],
-    work: &mut [u32],
-    rows: &mut [u32],
-    s: &mut [u32],
-    t: &mut [u32],
-    ends: &mut [usize],
-    sheet: &[u8],
-    names: Names,
-    feed: &[u32],
-    drawing: &[u32],
-) -> usize
-    requires { ⌜ Fresh (now list) (now work) (now rows) ⌝ ∗ ⌜ 1024 < length (now ends) ⌝ ∗ ⌜ Scratch (roomOf (now work)) (now s) (now t) ⌝ ∗ ⌜ Spans (now sheet) names 12 ⌝ ∗ ⌜ names .n ≡ nodeCount (now drawing) ⌝ }
-    ensures { λ r. ⌜ listed r (now (out .exit)) ≡ listedIn (wordsText (now (sheet .entry)) names (now (feed .entry)) (now (drawing .entry))) (now (out .entry)) ⌝ }
-{
-    let answer = query_with(list, work, rows, s, t, ends, feed, drawing);
-    if is_answered(answer) {
-        return print_rows(out, sheet, names, drawing, rows, extent(answer));
-    }
-    print_refusal(out, answer)
-}
-
-// The same, with slices of its own: 16,384 work words, 4,096 row words, and room for every instruction.
-fn ask(out: &mut [u8], sheet: &[u8], names: Names, feed: &[u32], drawing: &[u32]) -> usize
-    requires { ⌜ Spans (now sheet) names 12 ⌝ ∗ ⌜ names .n ≡ nodeCount (now drawing) ⌝ }
-    ensures { λ r. ⌜ listed r (now (out .exit)) ≡ listedIn (wordsText (now (sheet .entry)) names (now (feed .entry)) (now (drawing .entry))) (now (out .entry)) ⌝ }
-{
-    let mut list = [0u32; 3072];
-    let mut work = [0u32; 16384];
-    let mut rows = [0u32; 4096];
-    let mut s = [0u32; 8192];
-    let mut t = [0u32; 8192];
-    let mut ends = [0usize; 1025];
-    print_answer(
-        out,
+    let mut list = [0u32; LIST_WORDS];
+    let mut work = [0u32; SHEET_WORK];
+    let mut s = [0u32; SHEET_WORK / 2];
+    let mut t = [0u32; SHEET_WORK / 2];
+    let mut ends = [0usize; ENDS];
+    query_built(
         &mut list,
         &mut work,
-        &mut rows,
+        rows,
         &mut s,
         &mut t,
         &mut ends,
-        sheet,
-        names,
         feed,
-        drawing,
+        d,
     )
 }
 
-// Prints what a sheet's words answer, or the line of its first breach.
-fn print_sheet(
-    out: &mut [u8],
-    sheet: &[u8],
-    words: SheetWords,
-    feed: &[u32],
-    drawing: &[u32],
-) -> usize
-    requires { ⌜ Answers (now sheet) (now feed) (now drawing) words (words .found) ⌝ }
+// Prints what a feed and a drawing answer: the rows, or the refusal.
+fn print_answer(out: &mut [u8], sheet: &[u8], names: Names, feed: &[u32], d: Drawing) -> usize
+    requires { ⌜ Named (now sheet) names d ⌝ }
+    ensures { λ r. ⌜ listed r (now (out .exit)) ≡ listedIn (queryText (namesOf (now (sheet .entry)) names) (now (feed .entry)) (view d)) (now (out .entry)) ⌝ }
+{
+    let mut rows = [0u32; SHEET_ROWS];
+    let given = ask(&mut rows, feed, d);
+    let answer = given.answer;
+    if accepts(answer) {
+        let picks = count_picks(d);
+        return write_listing(out, sheet, names, d, &rows, given.extent, picks);
+    }
+    write_refusal(out, answer)
+}
+
+// Prints what a sheet answers, or the line of its first breach.
+fn print_sheet(out: &mut [u8], sheet: &[u8], feed: &[u32], read: SheetRead) -> usize
+    requires { ⌜ Answers (now sheet) (now feed) read ⌝ }
     ensures { λ r. ⌜ listed r (now (out .exit)) ≡ sheetQuery (now (sheet .entry)) (now (out .entry)) ⌝ }
 {
-    let found = words.found;
-    match found {
-        Found::Breach(line) => write_refusal(out, 14, line),
-        Found::Whole => {
-            let m = words.feed;
-            let n = words.drawing;
-            ask(out, sheet, words.nodes, &feed[0..m], &drawing[0..n])
-        }
+    let answer = read.answer;
+    if accepts(answer) {
+        let n = read.feed;
+        return print_answer(out, sheet, read.nodes, &feed[0..n], read.drawing);
     }
+    write_refusal(out, answer)
 }
 
 // The listing of a sheet, and its length.
 pub fn sheet_query(sheet: &[u8], listing: &mut [u8]) -> usize
     ensures { λ r. ⌜ listed r (now (listing .exit)) ≡ sheetQuery (now (sheet .entry)) (now (listing .entry)) ⌝ }
 {
-    let mut feed = [0u32; 8290];
-    let mut drawing = [0u32; 98];
-    let mut classes = [0u32; 12288];
-    let mut labels = [0u32; 12288];
-    let words = read_sheet(&mut feed, &mut drawing, &mut classes, &mut labels, sheet);
-    print_sheet(listing, sheet, words, &feed, &drawing)
+    let mut feed = [0u32; FEED_WORDS];
+    let mut classes = [0u32; LINE_WORDS];
+    let mut labels = [0u32; LINE_WORDS];
+    let read = read_sheet(&mut feed, &mut classes, &mut labels, sheet);
+    print_sheet(listing, sheet, &feed, read)
 }

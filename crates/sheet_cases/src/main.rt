@@ -2,6 +2,8 @@
 // breach of its form. Prints each name, then the listing. At the end the first sheet again, with slices of several lengths.
 
 use matcher::matcher_sheet_query;
+use sheet::DECIDING_BYTES;
+use sheet::LONGEST_LISTING;
 ghost use Rattle.io.specs.Counts.{Counts};
 
 // Reads the file of this name: how many bytes.
@@ -16,9 +18,9 @@ fn read_file(to: &mut [u8], name: &[u8]) -> usize
 
 // Prints the name of a sheet, then its listing.
 fn show(name: &[u8]) {
-    let mut sheet = [0u8; 16385];
+    let mut sheet = [0u8; DECIDING_BYTES];
     let n = read_file(&mut sheet, name);
-    let mut listing = [0u8; 24732];
+    let mut listing = [0u8; LONGEST_LISTING];
     let m = matcher_sheet_query(&sheet[0..n], &mut listing);
     io::write_all(1, name);
     io::write_all(1, b":\n");
@@ -51,7 +53,7 @@ fn print_bytes(bytes: &[u8]) {
 fn lend(out: &mut [u8]) {
     let mut name = io::buffer();
     let k = os::arg(1, &mut name);
-    let mut sheet = [0u8; 16385];
+    let mut sheet = [0u8; DECIDING_BYTES];
     let n = read_file(&mut sheet, &name[..k]);
     let m = matcher_sheet_query(&sheet[0..n], out);
     io::print_decimal(1, out.len() as u64);

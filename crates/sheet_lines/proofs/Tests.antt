@@ -21,7 +21,8 @@ use Rattle.sheet_text.specs.declared.Fields.{Fields}
 use Rattle.sheet_text.specs.Text.{fields, isName, isNumber, valueOf, same, find, known}
 use Rattle.sheet_text.specs.inner.Parts.{textAt, Two, Three, Fielded}
 use Rattle.sheet_text.proofs.Parts.{wrong-count}
-use Rattle.sheet_lines.specs.Reading.{Reading, allow, turnTo, withClasses, withLabels, withNode, withEdge, withLine, fitsTable, readClass, readLabel, readNode, readEdge, readValues, endSection, readOpened, headers, readHeader, byStage, readLine}
+use Rattle.sheet_lines.specs.Reading.{Reading, allow, turnTo, withClasses, withLabels, withNode, withEdge, withLine, fitsTable}
+use Rattle.sheet_lines.specs.Reading.{readClass, readLabel, readNode, readEdge, readValues, endSection, readOpened, headers, readHeader, byStage, readLine}
 
 -- ---- another number of fields
 

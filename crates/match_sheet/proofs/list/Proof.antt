@@ -10,26 +10,14 @@ use Rattle.sheet.proofs.Longest.{cut-same, listed-inside, listing-printed}
 use Rattle.match_sheet.proofs.list.Statement.{statement}
 use Rattle.match_sheet.proofs.list.Tie as tie
 
-sub-sheet-query : tie.Need-sub-sheet-query
-sub-sheet-query c = search needs
-
-part-sheet-query-start : tie.Need-part-sheet-query-start
-part-sheet-query-start c = search needs
-
-part-sheet-query-end : tie.Need-part-sheet-query-end
-part-sheet-query-end c = search needs
-
-sheet-query-requires : tie.Need-sheet-query-requires
-sheet-query-requires c κs = search needs
-
-same-length : tie.Need-same-length
-same-length c = search needs
-
 returns : tie.Need-returns
 returns c =
-    let a = c .before .before .before .before .before .before .before .args in
-    let h = c .before .before .before .before .before .before .before .pre in
-    let q = c .before .before .sheet-query in
+    let k = c .before .before in
+    let l = k .before .before in
+    let s = l .before .before .before in
+    let a = s .args in
+    let h = s .pre in
+    let q = k .sheet-query in
     let bytes = a .input .now in
     let part = take (a .n - 0) bytes in
     let z : a .n - 0 ≡ a .n = omega arith in
@@ -44,9 +32,9 @@ pub list-spec : {M : Type 1} → statement M
 list-spec =
     tie.close
     (tie.spec
-    sub-sheet-query
-    part-sheet-query-start
-    part-sheet-query-end
-    sheet-query-requires
-    same-length
+    (λ c. search needs)
+    (λ c. search needs)
+    (λ c. search needs)
+    (λ c κs. search needs)
+    (λ c. search needs)
     returns)

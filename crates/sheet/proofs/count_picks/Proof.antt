@@ -1,66 +1,58 @@
--- `sheet::count_picks` meets its contract.
--- Assumes nothing.
-use Prim.Native.Nat.{_-_, _≤_}
-use native.Mathlib.Omega.{arith}
-use borrow.Author.Needs.{needs}
-use Rattle.builder.specs.Builder.{view}
-use Rattle.builder.proofs.Builder.{roomy}
+-- `sheet::count_picks` meets its contract. Assumes nothing.
+use mathlib.Core.Path.{_≡_}
+use Prim.Native.Nat.{_+_, _-_, _≤_}
+use borrow.Author.Tests.{eq-eqb, ne-eqb}
+use lib.ListN.{length, take, drop}
+use Rattle.limits.specs.Limits.{mostNodes}
+use Rattle.tables.specs.Lists.{keep}
+use Rattle.drawing.specs.Drawing.{noNode, isPicked}
+use Rattle.drawing.specs.Builder.{view}
+use Rattle.drawing.proofs.Builder.{roomy, few}
+use Rattle.drawing.proofs.Encoding.{front-next, left-none}
 use Rattle.query.specs.Query.{pickCount}
-use Rattle.sheet.proofs.Picks.{Tallied, tallied-start, tallied-picked, tallied-passed, tallied-end, nodes-counted, node-at, is-picked, not-picked}
+use borrow.Author.Needs.{needs}
+use native.Mathlib.Omega.{arith}
 use Rattle.sheet.proofs.count_picks.Statement.{statement}
 use Rattle.sheet.proofs.count_picks.Tie as tie
 
 abbrev Inv-loop : tie.InvT-loop
-Inv-loop d n c₀ i₀ c i = Tallied (view d .nodes) c i × (i ≤ d .n)
+Inv-loop d n c₀ i₀ c i =
+    (i ≤ n) × (n ≡ length (take (d .n) (d .nodes))) × (n ≤ mostNodes) × (c ≤ i)
+    × (c + length (keep isPicked (drop i (take (d .n) (d .nodes)))) ≡ length (keep isPicked (take (d .n) (d .nodes))))
 
 abbrev μ-loop : tie.MeasureT-loop
 μ-loop d n c₀ i₀ c i = n - i
 
 loop-holds : tie.Need-loop-holds Inv-loop μ-loop
-loop-holds c = (tallied-start _, omega arith)
-
-mul-v : tie.Need-mul-v Inv-loop μ-loop
-mul-v c = search needs
-
-element-copy-out-v : tie.Need-element-copy-out-v Inv-loop μ-loop
-element-copy-out-v c = omega (arith, c .loop-test .taken, c .before .before .pre .few)
-
-add-i : tie.Need-add-i Inv-loop μ-loop
-add-i c = search needs
+unfolding view
+loop-holds c = let s = c .before in let f = few (s .args .t1) (roomy _ (s .good .0)) in (omega arith, c .node-count .ensures, omega (arith, f .nodes), omega arith, omega arith)
 
 add-c : tie.Need-add-c Inv-loop μ-loop
-add-c c = omega (arith, c .before .before .before .before .loop .inv .0 .few, c .before .before .before .loop-test .taken, c .before .before .before .before .before .pre .few)
-
-loop-less : tie.Need-loop-less Inv-loop μ-loop
-loop-less c = omega (arith, c .before .before .before .loop-test .taken)
+add-c c = let head = c .before .before .before .before in omega (arith, head .loop .inv .2, head .loop .inv .3)
 
 loop-again : tie.Need-loop-again Inv-loop μ-loop
+unfolding keep isPicked
 loop-again c =
-    let d = c .before .before .before .before .before .args .t1 in
-    let room = roomy d (c .before .before .before .before .before .good .0) in
-    let few = c .before .before .before .before .before .pre .few in
-    let t = c .before .before .before .loop-test .taken in
-    let n = nodes-counted room few in
-    (tallied-picked (c .before .before .before .before .loop .inv .0) (omega (arith, n, t)) (rw (node-at room few _ t) (is-picked _ (c .if1 .taken))), omega (arith, t))
-
-loop-less-2 : tie.Need-loop-less-2 Inv-loop μ-loop
-loop-less-2 c = omega (arith, c .before .before .before .loop-test .taken)
+    let head = c .before .before .before .before in
+    let d = head .before .before .args .t1 in
+    let left = rw (front-next (d .n) (d .nodes) (head .loop .i) noNode (omega (arith, head .loop .inv .1)), eq-eqb _ _ (c .if1 .taken)) at (head .loop .inv .4) in
+    (omega arith, head .loop .inv .1, head .loop .inv .2, omega (arith, head .loop .inv .3), omega (arith, left))
 
 loop-again-2 : tie.Need-loop-again-2 Inv-loop μ-loop
+unfolding keep isPicked
 loop-again-2 c =
-    let d = c .before .before .before .before .before .args .t1 in
-    let room = roomy d (c .before .before .before .before .before .good .0) in
-    let few = c .before .before .before .before .before .pre .few in
-    let t = c .before .before .before .loop-test .taken in
-    let n = nodes-counted room few in
-    (tallied-passed (c .before .before .before .before .loop .inv .0) (omega (arith, n, t)) (rw (node-at room few _ t) (not-picked _ (c .if1 .left))), omega (arith, t))
+    let head = c .before .before .before .before in
+    let d = head .before .before .args .t1 in
+    let left = rw (front-next (d .n) (d .nodes) (head .loop .i) noNode (omega (arith, head .loop .inv .1)), ne-eqb _ _ (c .if1 .left)) at (head .loop .inv .4) in
+    (omega arith, head .loop .inv .1, head .loop .inv .2, omega (arith, head .loop .inv .3), left)
 
 returns : tie.Need-returns Inv-loop μ-loop
-unfolding pickCount
+unfolding keep pickCount view
 returns c =
-    let d = c .before .before .args .t1 in
-    let n = nodes-counted (roomy d (c .before .before .good .0)) (c .before .before .pre .few) in
-    tallied-end (c .before .loop .inv .0) (omega (arith, n, c .before .loop .inv .1, c .loop-test .left))
+    let head = c .before in
+    let d = head .before .before .args .t1 in
+    let left = rw (left-none (take (d .n) (d .nodes)) (head .loop .i) (omega (arith, head .loop .inv .1))) at (head .loop .inv .4) in
+    omega (arith, left)
 
 pub count-picks-spec : {M : Type 1} → statement M
 count-picks-spec =
@@ -68,13 +60,14 @@ count-picks-spec =
     (tie.spec
     Inv-loop
     μ-loop
+    (λ c κs. search needs)
     loop-holds
-    mul-v
-    element-copy-out-v
-    add-i
+    (λ c. omega arith)
+    (λ c. omega arith)
+    (λ c. omega arith)
     add-c
-    loop-less
+    (λ c. omega arith)
     loop-again
-    loop-less-2
+    (λ c. omega arith)
     loop-again-2
     returns)

@@ -1,71 +1,47 @@
--- `sheet::print_sheet` meets its contract.
--- Assumes nothing.
+-- `sheet::print_sheet` meets its contract. Assumes nothing.
+use mathlib.Core.Path.{sym, _∙_}
+use Rattle.sheet.proofs.Printing.{sheet-given, sheet-refused, named, whole-listed}
 use borrow.Author.Needs.{needs}
-use mathlib.Core.Path.{_∙_}
-use Rattle.sheet_reader.proofs.Words.{answer-broken, answer-whole}
-use Rattle.sheet.proofs.Printing.{named, whole-listed, breach-listed}
 use Rattle.sheet.proofs.print_sheet.Statement.{statement}
 use Rattle.sheet.proofs.print_sheet.Tie as tie
 
-enum-known-found : tie.Need-enum-known-found
-enum-known-found c = search needs
+part-print-answer-end : tie.Need-part-print-answer-end
+part-print-answer-end c =
+    let i = c .before in
+    let a = i .before in
+    sheet-given (a .before .before .before .before .pre) (sym (a .accepts .ensures) ∙ i .if1 .taken) .fits
 
-write-refusal-requires : tie.Need-write-refusal-requires
-write-refusal-requires c κs = search needs
-
-enum-told : tie.Need-enum-told
-enum-told c = search needs
-
-sub-ask : tie.Need-sub-ask
-sub-ask c = search needs
-
-part-ask-start : tie.Need-part-ask-start
-part-ask-start c = search needs
-
-part-ask-end : tie.Need-part-ask-end
-part-ask-end c = answer-whole (c .before .before .before .before .before .before .before .pre) (c .before .enum-told .given .1) .1 .feedFits
-
-sub-ask-2 : tie.Need-sub-ask-2
-sub-ask-2 c = search needs
-
-part-ask-start-2 : tie.Need-part-ask-start-2
-part-ask-start-2 c = search needs
-
-part-ask-end-2 : tie.Need-part-ask-end-2
-part-ask-end-2 c = answer-whole (c .before .before .before .before .before .before .before .before .pre) (c .before .before .enum-told .given .1) .1 .drawingFits
-
-ask-requires : tie.Need-ask-requires
-ask-requires c κs =
-    let g = answer-whole (c .before .before .before .before .before .before .before .before .before .pre) (c .before .before .before .enum-told .given .1) .1 in
-    (g .spans, named g)
-
-same-length : tie.Need-same-length
-same-length c = search needs
+print-answer-requires : tie.Need-print-answer-requires
+print-answer-requires c κs =
+    let i = c .before .before in
+    let a = i .before in
+    named (sheet-given (a .before .before .before .before .pre) (sym (a .accepts .ensures) ∙ i .if1 .taken))
 
 returns : tie.Need-returns
-returns c = c .before .before .write-refusal .ensures ∙ breach-listed _ _ (answer-broken (c .before .before .before .before .before .before .before .before .before .before .before .pre) (c .before .before .before .before .before .found .given .1))
-
-same-length-2 : tie.Need-same-length-2
-same-length-2 c = search needs
+returns c =
+    let p = c .before .before in
+    let i = p .before .before .before in
+    let a = i .before in
+    p .print-answer .ensures ∙ whole-listed (sheet-given (a .before .before .before .before .pre) (sym (a .accepts .ensures) ∙ i .if1 .taken)) _
 
 returns-2 : tie.Need-returns-2
-returns-2 c = c .before .before .ask .ensures ∙ whole-listed (answer-whole (c .before .before .before .before .before .before .before .before .before .before .before .before .pre) (c .before .before .before .before .before .before .enum-told .given .1) .1) _
+returns-2 c =
+    let w = c .before .before in
+    let i = w .before .before in
+    let a = i .before in
+    w .write-refusal .ensures ∙ sheet-refused (a .before .before .before .before .pre) _ (sym (a .accepts .ensures) ∙ i .if1 .left)
 
 pub print-sheet-spec : {M : Type 1} → statement M
 print-sheet-spec =
     tie.close
     (tie.spec
-    enum-known-found
-    write-refusal-requires
-    enum-told
-    sub-ask
-    part-ask-start
-    part-ask-end
-    sub-ask-2
-    part-ask-start-2
-    part-ask-end-2
-    ask-requires
-    same-length
+    (λ c κs. search needs)
+    (λ c. search needs)
+    (λ c. search needs)
+    part-print-answer-end
+    print-answer-requires
+    (λ c. search needs)
     returns
-    same-length-2
+    (λ c κs. search needs)
+    (λ c. search needs)
     returns-2)

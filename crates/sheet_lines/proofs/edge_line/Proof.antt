@@ -44,7 +44,8 @@ find-name-requires-3 c κs =
 
 cast-target : tie.Need-cast-target
 cast-target c =
-    let g = c .before .before .before .before .before in
+    let i = c .before .before .before in
+    let g = i .before .before in
     let s = g .before .before .before .before in
     let f = find-small (s .pre .fine .nodes) (omega arith) (textAt (s .args .s .now) (g .fields-of .result .third)) in
     omega (arith, c .find-name3 .ensures)

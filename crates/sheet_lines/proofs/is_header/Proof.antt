@@ -8,41 +8,34 @@ use Rattle.sheet_lines.proofs.is_header.Statement.{statement}
 use Rattle.sheet_lines.proofs.is_header.Tie as tie
 
 same-text-requires : tie.Need-same-text-requires
-same-text-requires c κs =
-    let s = c .before .before .before in
-    (s .pre .0, record { ordered = omega arith; ends = omega arith })
+same-text-requires c κs = search needs
 
 returns : tie.Need-returns
 unfolding headers bytes
 returns c = rw (c .before .before .if1 .taken) (c .same-text .ensures)
 
 same-text-requires-2 : tie.Need-same-text-requires-2
-same-text-requires-2 c κs =
-    let s = c .before .before .before .before in
-    (s .pre .0, record { ordered = omega arith; ends = omega arith })
+same-text-requires-2 c κs = search needs
 
 returns-2 : tie.Need-returns-2
 unfolding headers bytes
 returns-2 c = rw (c .before .before .if2 .taken) (c .same-text2 .ensures)
 
 same-text-requires-3 : tie.Need-same-text-requires-3
-same-text-requires-3 c κs =
-    let s = c .before .before .before .before .before in
-    (s .pre .0, record { ordered = omega arith; ends = omega arith })
+same-text-requires-3 c κs = search needs
 
 returns-3 : tie.Need-returns-3
 unfolding headers bytes
 returns-3 c = rw (c .before .before .if3 .taken) (c .same-text3 .ensures)
 
 same-text-requires-4 : tie.Need-same-text-requires-4
-same-text-requires-4 c κs =
-    let s = c .before .before .before .before .before in
-    (s .pre .0, record { ordered = omega arith; ends = omega arith })
+same-text-requires-4 c κs = search needs
 
 returns-4 : tie.Need-returns-4
 unfolding headers bytes
 returns-4 c =
-    let s = c .before .before .before .before .before .before in
+    let i = c .before .before in
+    let s = i .before .before .before .before in
     let z : s .args .section ≡ 3 = omega arith in rw z (c .same-text4 .ensures)
 
 pub is-header-spec : {M : Type 1} → statement M

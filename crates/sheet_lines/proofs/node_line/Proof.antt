@@ -19,12 +19,15 @@ is-node-requires c κs =
     record { within = c .fields-of .ensures .within; first = spans-wider (f .classes) (omega arith); second = spans-wider (f .nodes) (omega arith) }
 
 find-name-requires : tie.Need-find-name-requires
-find-name-requires c κs = (c .before .before .fields-of .ensures .within .second, spans-wider (c .before .before .before .before .before .pre .fine .classes) (omega arith))
+find-name-requires c κs =
+    let g = c .before .before in
+    (g .fields-of .ensures .within .second, spans-wider (g .before .before .before .pre .fine .classes) (omega arith))
 
 cast-class : tie.Need-cast-class
 cast-class c =
-    let s = c .before .before .before .before .before .before in
-    let f = find-small (s .pre .fine .classes) (omega arith) (textAt (s .args .s .now) (c .before .before .before .fields-of .result .second)) in
+    let g = c .before .before .before in
+    let s = g .before .before .before in
+    let f = find-small (s .pre .fine .classes) (omega arith) (textAt (s .args .s .now) (g .fields-of .result .second)) in
     omega (arith, c .find-name .ensures)
 
 value-of-requires : tie.Need-value-of-requires

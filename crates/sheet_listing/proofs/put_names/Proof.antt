@@ -60,7 +60,8 @@ put-name-requires c κs =
 loop-again : tie.Need-loop-again Inv-loop μ-loop
 loop-again c =
     let l = in-loop-of-again c in
-    (naming-takes (l .before .loop .inv .0) (entry-of-in-loop l .pre) (room (entry-of-in-loop l)) (omega (arith, l .loop-test .taken, l .before .loop .inv .1)) (then1-of-again c .if1 .taken) (c .before .before .put-name .ensures), l .before .loop .inv .1)
+    let g = l .before .loop .inv in
+    (naming-takes (g .0) (entry-of-in-loop l .pre) (room (entry-of-in-loop l)) (omega (arith, l .loop-test .taken, g .1)) (then1-of-again c .if1 .taken) (c .before .before .put-name .ensures), g .1)
 
 loop-again-2 : tie.Need-loop-again-2 Inv-loop μ-loop
 loop-again-2 c =

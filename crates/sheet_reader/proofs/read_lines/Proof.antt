@@ -48,9 +48,9 @@ read-line-requires c κs =
 
 add-a : tie.Need-add-a Inv-loop μ-loop
 add-a c =
-    let l = c .before .before .before .before .before in
-    let k = l .before .before .before .before in
-    omega (arith, k .cut .ensures .upTo)
+    let l = c .before .before .before .before in
+    let i = l .before .before .before .before in
+    omega (arith, i .before .cut .ensures .upTo)
 
 same-length-3 : tie.Need-same-length-3 Inv-loop μ-loop
 same-length-3 c =

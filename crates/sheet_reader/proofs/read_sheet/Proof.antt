@@ -15,20 +15,18 @@ returns : tie.Need-returns
 returns c =
     let p = c .before .before in
     let i = p .before .before .before .before in
-    let x = i .before .before .before .before in
-    let l = x .before .before .before .before .before in
-    let a = l .before .before .before in
-    let s = a .before .before .before .before in
-    let g = l .read-lines .ensures in
+    let x = i .before .before .before in
+    let y = x .before .before .before in
+    let g = y .before .before .before .read-lines .ensures in
     let ok = accepted-is _ (sym (i .before .accepts .ensures) ∙ i .if1 .taken) in
     record { verdict = g .verdict; given = λ h. sheet-given g ok (put-feed-requires (p .before) (p .put-feed .lifetimes)) (p .put-feed .ensures) }
 
 returns-2 : tie.Need-returns-2
 unfolding isAccepted
 returns-2 c =
-    let x = c .before .before .before .before in
-    let l = x .before .before .before .before .before in
-    record { verdict = l .read-lines .ensures .verdict; given = λ h. absurd (true-not-false (ap isAccepted h) (sym (c .before .accepts .ensures) ∙ c .if1 .left)) }
+    let x = c .before .before .before in
+    let y = x .before .before .before in
+    record { verdict = y .before .before .before .read-lines .ensures .verdict; given = λ h. absurd (true-not-false (ap isAccepted h) (sym (c .before .accepts .ensures) ∙ c .if1 .left)) }
 
 pub read-sheet-spec : {M : Type 1} → statement M
 read-sheet-spec =

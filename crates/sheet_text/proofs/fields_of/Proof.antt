@@ -35,13 +35,18 @@ returns-3 : tie.Need-returns-3
 returns-3 c =
     let k = c .before .before in
     let l = k .before .before in
-    three-fields (l .before .before .before .pre) (l .before .cut .ensures) (omega (arith, l .before .cut .ensures .upTo)) (k .before .cut2 .ensures) (omega (arith, k .before .cut2 .ensures .upTo)) (c .before .cut3 .ensures) (c .if3 .taken)
+    let a = l .before .cut .ensures in
+    let b = k .before .cut2 .ensures in
+    three-fields (l .before .before .before .pre) a (omega (arith, a .upTo)) b (omega (arith, b .upTo)) (c .before .cut3 .ensures) (c .if3 .taken)
 
 returns-4 : tie.Need-returns-4
 returns-4 c =
     let k = c .before .before in
     let l = k .before .before in
-    more-fields (l .before .before .before .pre) (l .before .cut .ensures) (omega (arith, l .before .cut .ensures .upTo)) (k .before .cut2 .ensures) (omega (arith, k .before .cut2 .ensures .upTo)) (c .before .cut3 .ensures) (omega (arith, c .before .cut3 .ensures .upTo))
+    let a = l .before .cut .ensures in
+    let b = k .before .cut2 .ensures in
+    let d = c .before .cut3 .ensures in
+    more-fields (l .before .before .before .pre) a (omega (arith, a .upTo)) b (omega (arith, b .upTo)) d (omega (arith, d .upTo))
 
 pub fields-of-spec : {M : Type 1} → statement M
 fields-of-spec =
