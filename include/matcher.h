@@ -10,6 +10,11 @@
 #include <stddef.h>
 #include <stdint.h>
 
+#define MATCHER_VERSION "1.0.0"
+#define MATCHER_VERSION_MAJOR 1
+#define MATCHER_VERSION_MINOR 0
+#define MATCHER_VERSION_PATCH 0
+
 #ifdef __cplusplus
 extern "C" {
 #endif
