@@ -5,12 +5,11 @@
 mod cases;
 mod checks;
 mod examples;
-#[path = "../../../include/matcher.rs"]
-mod matcher;
 #[allow(dead_code)]
 mod model;
 mod queries;
 mod random;
+mod raw;
 mod runs;
 mod search;
 mod sheet_cases;
@@ -18,6 +17,7 @@ mod sheet_model;
 mod sheets;
 mod stack;
 
+use matcher::Refusal;
 use std::fmt::Debug;
 
 #[derive(Default)]
@@ -66,6 +66,14 @@ impl Tally {
     }
 }
 
+/// The number and the place that an answer says, both 0 where it is no refusal.
+pub fn said<T>(answer: &Result<T, Refusal>) -> model::Verdict {
+    match answer {
+        Ok(_) => model::ACCEPTED,
+        Err(refusal) => (refusal.number, refusal.place),
+    }
+}
+
 /// Some hundred cases of every call.
 fn few(tally: &mut Tally) {
     checks::feeds(tally, 100);
@@ -79,6 +87,7 @@ fn few(tally: &mut Tally) {
     sheets::named(tally);
     sheets::ceilings(tally);
     sheets::random(tally, 300);
+    raw::all(tally, 100);
 }
 
 fn main() {
@@ -103,6 +112,7 @@ fn main() {
     sheets::ceilings(&mut tally);
     sheets::mutations(&mut tally);
     sheets::random(&mut tally, 100_000);
+    raw::all(&mut tally, 20_000);
     stack::all(&mut tally);
     tally.end();
 }

@@ -1,7 +1,6 @@
 //! The sheet query against a second reading of sheets: the returned length, and every byte of the lent slice and beside it.
 
 use crate::checks::Causes;
-use crate::matcher;
 use crate::model::{self, Verdict, ACCEPTED};
 use crate::queries;
 use crate::random::Random;
@@ -21,14 +20,16 @@ fn ask(tally: &mut Tally, what: &str, sheet: &[u8], text: &[u8], length: usize, 
     let mut wanted: Vec<u8> = (0..length + 2 * beside).map(pattern).collect();
     let mut lent = wanted.clone().into_boxed_slice();
     let returned = sheet_model::listed(text, &mut wanted[beside..beside + length]);
-    let found = matcher::sheet_query(sheet, &mut lent[beside..beside + length]);
-    if found == returned && lent[..] == wanted[..] {
+    let found = matcher::sheet_query(sheet, &mut lent[beside..beside + length]).map(<[u8]>::to_vec);
+    // no listing is empty
+    let given = (returned > 0).then(|| text[..returned].to_vec());
+    if found == given && lent[..] == wanted[..] {
         tally.same(what, &true, &true, &[]);
         return;
     }
     let shown = |bytes: &[u8]| String::from_utf8_lossy(bytes).into_owned();
     let what = format!("{what}, {length} bytes lent, for {:?}", shown(sheet));
-    tally.same(&what, &(found, shown(&lent)), &(returned, shown(&wanted)), &[]);
+    tally.same(&what, &(found.map(|listing| shown(&listing)), shown(&lent)), &(given.map(|listing| shown(&listing)), shown(&wanted)), &[]);
 }
 
 /// What the sheets of a test met.

@@ -2,10 +2,9 @@
 //! with small stacks.
 
 use crate::cases;
-use crate::matcher;
 use crate::model::Table;
 use crate::sheets;
-use crate::Tally;
+use crate::{said, Tally};
 use std::alloc::{alloc, dealloc, Layout};
 use std::ffi::{c_int, c_void};
 
@@ -94,18 +93,18 @@ fn large_queries() -> Vec<Words> {
 
 /// The number of a run.
 fn run((feed, list): &Words) -> usize {
-    matcher::run(feed, list, &mut vec![0; 800_000]).0 as usize
+    said(&matcher::run(feed, list, &mut vec![0; 800_000])).0 as usize
 }
 
 /// The row words of a query.
 fn query((feed, drawing): &Words) -> usize {
     let [mut list, mut work, mut rows] = [3_072, 1_600_000, 140_000].map(|words| vec![0; words]);
-    matcher::query(feed, drawing, &mut list, &mut work, &mut rows).1
+    matcher::query(feed, drawing, &mut list, &mut work, &mut rows).map_or(0, <[u32]>::len)
 }
 
 /// The length of a listing.
 fn sheet_query(sheet: &Vec<u8>) -> usize {
-    matcher::sheet_query(sheet, &mut vec![0; 30_000])
+    matcher::sheet_query(sheet, &mut vec![0; 30_000]).map_or(0, <[u8]>::len)
 }
 
 /// All cases of a call, measured, and then on a thread with a stack of this size.
