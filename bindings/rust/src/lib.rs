@@ -12,8 +12,8 @@ mod calls;
 use std::error::Error;
 use std::fmt;
 
-/// An instruction list of so many words has room for every translation.
-pub const LIST_WORDS: usize = 3_072;
+/// An instruction list of so many words has room for every translation: 864 instructions.
+pub const LIST_WORDS: usize = 2_592;
 
 /// A listing of so many bytes has room for the answer to every sheet.
 pub const LISTING_BYTES: usize = 24_732;
