@@ -1,8 +1,8 @@
 //! The region matcher: safe calls over the proved library.
 //!
-//! A *feed* is what the cameras saw: classes of regions, and labelled pairs of regions. A *drawing* is what is asked: nodes, edges, some nodes picked.
-//! [`query`] gives one row for each list of objects that the drawing finds at its picked nodes, ascending, each once. Feeds, drawings and instruction
-//! lists are slices of words, whose formats `docs/MANUAL.md` of the repository describes; [`sheet_query`] takes both as text instead.
+//! A *feed* is what the cameras saw: classes of regions, and labelled pairs of regions. A *drawing* is what is asked: nodes, edges, some nodes
+//! picked. [`query`] gives one row for each list of objects that the drawing finds at its picked nodes, ascending, each once. Feeds, drawings and
+//! instruction lists are slices of words, whose formats `docs/MANUAL.md` of the repository describes; [`sheet_query`] takes both as text instead.
 //!
 //! Every call takes any words: it answers, or gives a [`Refusal`]. No call keeps anything or shares anything with another, so threads may call at
 //! once. What a call takes of the stack stands in `include/matcher.h`; it is less than 1 MiB.
@@ -76,9 +76,9 @@ fn answer(number: u32, place: u32) -> Result<(), Refusal> {
 
 // ---- the calls
 //
-// Why each unsafe block is sound. A slice gives a pointer that is aligned and not null, an empty one, too, and the length of what it points to. What is
-// lent as `&mut` overlaps nothing, and what is lent as `&` does not change during the call. The library reads and writes within these lengths, keeps
-// no pointer, and writes each place and count.
+// Why each unsafe block is sound. A slice gives a pointer that is aligned and not null, an empty one, too, and the length of what it points to. What
+// is lent as `&mut` overlaps nothing, and what is lent as `&` does not change during the call. The library reads and writes within these lengths,
+// keeps no pointer, and writes each place and count.
 
 /// Checks a feed: refusals 1 to 4.
 pub fn check_feed(feed: &[u32]) -> Result<(), Refusal> {
@@ -96,8 +96,8 @@ pub fn check_drawing(feed: &[u32], drawing: &[u32]) -> Result<(), Refusal> {
     answer(number, place)
 }
 
-/// Checks a feed and a drawing, then translates the drawing: refusals 1 to 7 and 13. Gives the number of instructions. The list then holds these, three
-/// words each, then zeros; after a refusal it is untouched. [`LIST_WORDS`] always suffice.
+/// Checks a feed and a drawing, then translates the drawing: refusals 1 to 7 and 13. Gives the number of instructions. The list then holds these,
+/// three words each, then zeros; after a refusal it is untouched. [`LIST_WORDS`] always suffice.
 pub fn translate(feed: &[u32], drawing: &[u32], list: &mut [u32]) -> Result<usize, Refusal> {
     let (mut place, mut instructions) = (0, 0);
     let (f, d, l) = (feed.as_ptr(), drawing.as_ptr(), list.as_mut_ptr());
@@ -107,8 +107,9 @@ pub fn translate(feed: &[u32], drawing: &[u32], list: &mut [u32]) -> Result<usiz
     answer(number, place).map(|()| instructions)
 }
 
-/// Checks a feed and an instruction list, then runs the list: refusals 1 to 4 and 8 to 11. The work slice takes two words a pair. After the run, accepted
-/// or stopped by 10 or 11, it holds the finished registers, then zeros; after other refusals it is untouched. Zeroing takes time: lend near the need.
+/// Checks a feed and an instruction list, then runs the list: refusals 1 to 4 and 8 to 11. The work slice takes two words a pair. After the run,
+/// accepted or stopped by 10 or 11, it holds the finished registers, then zeros; after other refusals it is untouched. Zeroing takes time: lend near
+/// the need.
 pub fn run(feed: &[u32], list: &[u32], work: &mut [u32]) -> Result<(), Refusal> {
     let mut place = 0;
     let (f, l, w) = (feed.as_ptr(), list.as_ptr(), work.as_mut_ptr());
@@ -118,8 +119,8 @@ pub fn run(feed: &[u32], list: &[u32], work: &mut [u32]) -> Result<(), Refusal> 
 }
 
 /// Checks a feed and a drawing, translates the drawing, runs the translation and gives the rows, one behind the other: refusals 1 to 7 and 10 to 13.
-/// The rows are the first words of the row slice; those behind them are untouched. After 12 the row slice is all zeros, after other refusals untouched.
-/// The list and the work slice end up as after [`translate`] and [`run`].
+/// The rows are the first words of the row slice; those behind them are untouched. After 12 the row slice is all zeros, after other refusals
+/// untouched. The list and the work slice end up as after [`translate`] and [`run`].
 pub fn query<'r>(
     feed: &[u32],
     drawing: &[u32],

@@ -1,5 +1,5 @@
-//! The C calls themselves: each writes its place and its count always, 0 where the header says so. The crate does not show that, for it gives no place
-//! where it accepts and no count where it refuses.
+//! The C calls themselves: each writes its place and its count always, 0 where the header says so. The crate does not show that, for it gives no
+//! place where it accepts and no count where it refuses.
 
 use crate::cases;
 use crate::model::{self, Verdict};
