@@ -75,8 +75,9 @@ pub fn longest(tally: &mut Tally) {
     let sheet = widest();
     let answer = sheet_model::answer(&sheet);
     tally.same("the longest listing", &(answer.verdict, answer.text.len()), &(ACCEPTED, 24_708), &[]);
+    let beside = if tally.few { 0 } else { 8 };
     for length in [24_707, 24_708, 24_732] {
-        sheets::ask(tally, "the longest listing", &sheet, &answer.text, length, if tally.few { 0 } else { 8 });
+        sheets::ask(tally, "the longest listing", &sheet, &answer.text, length, beside);
     }
     println!("the longest listing: {} bytes, stated {}", answer.text.len(), stated().unwrap_or(0));
 }
