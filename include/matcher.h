@@ -20,8 +20,8 @@
  *       matcher_query            0
  *       matcher_sheet_query      0
  *
- * Calls share no state, keep none and allocate nothing. Threads may call at once, each with its own slices to write to; slices that
- * are only read may be shared.
+ * Calls share no state, keep none and allocate nothing; of the C library they need memcpy and memset. Threads may call at once, each
+ * with its own slices to write to; slices that are only read may be shared.
  */
 #ifndef MATCHER_H
 #define MATCHER_H
