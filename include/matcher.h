@@ -13,15 +13,15 @@
  * - Nothing else changes the slices during the call: a feed is checked, then read again.
  * - The stack has room for the call. In KiB, measured and rounded up:
  *
- *       matcher_check_feed       0
- *       matcher_check_drawing    0
- *       matcher_translate        0
- *       matcher_run              0
- *       matcher_query            0
- *       matcher_sheet_query      0
+ *       matcher_check_feed       1
+ *       matcher_check_drawing    4
+ *       matcher_translate       26
+ *       matcher_run            540
+ *       matcher_query          560
+ *       matcher_sheet_query    330
  *
- * Calls share no state, keep none and allocate nothing. Threads may call at once, each with its own slices to write to; slices that
- * are only read may be shared.
+ * Calls share no state, keep none and allocate nothing; of the C library they need memcpy and memset. Threads may call at once, each
+ * with its own slices to write to; slices that are only read may be shared.
  */
 #ifndef MATCHER_H
 #define MATCHER_H

@@ -1,6 +1,6 @@
 /* Every call of matcher.h from C: the sample's answers, with words before and behind all that is written; slices of length 0 at a null
  * pointer; slices that were never written, for valgrind; and several threads at once. Compiled as C99 and as C++.
- * The last line is 'N passed, M failed'.
+ * The last line is 'N passed, M failed'. With `--few` the threads ask less often, for valgrind.
  */
 #include "matcher.h"
 
@@ -316,12 +316,14 @@ static void unwritten(struct tally *t)
 
 /* ---- threads: the samples that are read are the same for all, the slices that are written to are each one's own */
 
-enum { THREADS = 4, ROUNDS = 500 };
+enum { THREADS = 4 };
+
+static int most_rounds = 500;
 
 static void *rounds(void *tally)
 {
     int i;
-    for (i = 0; i < ROUNDS; i++)
+    for (i = 0; i < most_rounds; i++)
         all_calls((struct tally *)tally);
     return NULL;
 }
@@ -340,13 +342,15 @@ static void threads(struct tally *t)
         }
     for (i = 0; i < THREADS; i++) {
         pthread_join(started[i], NULL);
-        same(t, "a thread among others", own[i].passed, (size_t)ROUNDS * alone.passed);
+        same(t, "a thread among others", own[i].passed, (size_t)most_rounds * alone.passed);
     }
 }
 
-int main(void)
+int main(int count, char **arguments)
 {
     struct tally t = {0, 0};
+    if (count > 1 && strcmp(arguments[1], "--few") == 0)
+        most_rounds = 5;
     all_calls(&t);
     null_words(&t);
     null_queries(&t);

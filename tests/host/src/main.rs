@@ -5,6 +5,7 @@
 mod cases;
 mod checks;
 mod examples;
+mod listings;
 #[allow(dead_code)]
 mod model;
 mod queries;
@@ -87,6 +88,7 @@ fn few(tally: &mut Tally) {
     sheets::named(tally);
     sheets::ceilings(tally);
     sheets::random(tally, 300);
+    listings::longest(tally);
     raw::all(tally, 100);
 }
 
@@ -112,6 +114,8 @@ fn main() {
     sheets::ceilings(&mut tally);
     sheets::mutations(&mut tally);
     sheets::random(&mut tally, 100_000);
+    listings::lengths(&mut tally);
+    listings::longest(&mut tally);
     raw::all(&mut tally, 20_000);
     stack::all(&mut tally);
     tally.end();

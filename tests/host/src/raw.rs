@@ -80,7 +80,7 @@ fn drawn(tally: &mut Tally, met: &mut Met, r: &mut Random) {
     compare(tally, met, "raw check_drawing", check_drawing(&feed, &drawing), (model::check_drawing(&feed, &drawing), None), &drawing);
 
     const MOST: usize = 8_000;
-    let [list, work, rows] = [36, MOST, 60].map(|most| vec![7; r.below(most + 1)]);
+    let [list, work, rows] = [(30, 1_200), (60, MOST), (6, 600)].map(|(short, long)| vec![7; if r.one_in(4) { r.below(short) } else { long }]);
     let (translated, answer) = match model::plan(&feed, &drawing, MOST) {
         Ok(plan) => (plan.list(&list), plan.answer(&list, &work, &rows)),
         Err(verdict) => ((verdict, 0, Vec::new()), model::refusal(verdict, &list, &work, &rows)),
