@@ -11,6 +11,7 @@ mod model;
 mod queries;
 mod random;
 mod raw;
+mod refusals;
 mod runs;
 mod search;
 mod sheet_cases;
@@ -90,6 +91,7 @@ fn few(tally: &mut Tally) {
     sheets::random(tally, 300);
     listings::longest(tally);
     raw::all(tally, 100);
+    refusals::words(tally);
 }
 
 fn main() {
@@ -117,6 +119,7 @@ fn main() {
     listings::lengths(&mut tally);
     listings::longest(&mut tally);
     raw::all(&mut tally, 20_000);
+    refusals::words(&mut tally);
     stack::all(&mut tally);
     tally.end();
 }
