@@ -5,6 +5,8 @@
 mod cases;
 mod checks;
 mod examples;
+mod manual;
+mod manual_limits;
 #[path = "../../../include/matcher.rs"]
 mod matcher;
 #[allow(dead_code)]
@@ -75,6 +77,7 @@ fn few(tally: &mut Tally) {
     runs::random(tally, 100);
     runs::long(tally, 2);
     examples::sources(tally);
+    manual::examples(tally);
     queries::few(tally, 100);
     sheets::named(tally);
     sheets::ceilings(tally);
@@ -98,6 +101,7 @@ fn main() {
     runs::large(&mut tally, 800);
     examples::belt(&mut tally);
     examples::sources(&mut tally);
+    manual::all(&mut tally);
     queries::all(&mut tally, 66_000);
     sheets::named(&mut tally);
     sheets::ceilings(&mut tally);
