@@ -110,6 +110,23 @@ fn probe(limit: &str, n: u32) -> u32 {
     }
 }
 
+/// Where the text names a limit of the table, too.
+const SENTENCES: [(&str, &str); 13] = [
+    ("classes of a feed", "C, the number of classes, 0 to {}"),
+    ("labels of a feed", "L, the number of labels, 0 to {}"),
+    ("pairs of a table", "how many pairs each table has, 0 to {}:"),
+    ("an object", "each a number from 0 to {}."),
+    ("nodes of a drawing", "n, the number of nodes, 1 to {}"),
+    ("edges of a drawing", "e, the number of edges, 0 to {}"),
+    ("instructions of a list", "A list is 1 to {} instructions"),
+    ("pairs of a register", "a register of more than {} pairs"),
+    ("bytes of a sheet", "At most {} bytes."),
+    ("letters of a name", "name = 1 to {} letters"),
+    ("digits of a number", "number = 1 to {} digits"),
+    ("pairs of a sheet's registers together", "16,384 work words ({} pairs)"),
+    ("row words of a sheet", "and {} row words"),
+];
+
 pub fn table(tally: &mut Tally) {
     for row in manual::table("## 9. Limits") {
         let limit: u32 = row[1].replace(',', "").parse().unwrap();
@@ -118,6 +135,8 @@ pub fn table(tally: &mut Tally) {
         let past = row[2].split(',').next().unwrap().parse();
         tally.same(&format!("the manual's limit, {}", row[0]), &probe(row[0], limit), &0, &[limit]);
         tally.same(&format!("past the manual's limit, {}", row[0]), &Ok(probe(row[0], next)), &past, &[next]);
+        let sentence = SENTENCES.iter().find(|(name, _)| *name == row[0]).map_or("", |(_, sentence)| sentence);
+        says(tally, &sentence.replace("{}", row[1]));
     }
     // what no probe can show is at least the header's number, too
     let header = include_str!("../../../include/matcher.h");
