@@ -135,7 +135,7 @@ pub fn table(tally: &mut Tally) {
         let past = row[2].split(',').next().unwrap().parse();
         tally.same(&format!("the manual's limit, {}", row[0]), &probe(row[0], limit), &0, &[limit]);
         tally.same(&format!("past the manual's limit, {}", row[0]), &Ok(probe(row[0], next)), &past, &[next]);
-        let sentence = SENTENCES.iter().find(|(name, _)| *name == row[0]).map_or("", |(_, sentence)| sentence);
+        let sentence = SENTENCES.iter().find(|(name, _)| *name == row[0]).map_or("no sentence names it", |(_, sentence)| sentence);
         says(tally, &sentence.replace("{}", row[1]));
     }
     // what no probe can show is at least the header's number, too
