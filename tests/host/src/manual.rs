@@ -71,7 +71,7 @@ fn words(tally: &mut Tally, name: &str, step: usize) -> Vec<u32> {
     for line in block(name) {
         let line = line.split('#').next().unwrap();
         let (place, rest) = line.split_once(':').unwrap_or_else(|| panic!("no place in docs/MANUAL.md, {name}: {line}"));
-        tally.same(&format!("manual, place in {name}"), &place.trim().parse(), &Ok(words.len() / step), &words);
+        tally.same(&format!("manual, place in {name}"), &place.trim().parse::<usize>(), &Ok(words.len() / step), &words);
         words.extend(numbers(rest));
     }
     words
@@ -106,7 +106,7 @@ pub struct Case {
     pub drawing: Vec<u32>,
     pub list: Vec<u32>,
     pub lengths: [usize; 3],
-    sheet: Option<Vec<u8>>,
+    pub sheet: Option<Vec<u8>>,
 }
 
 /// The sample, with ample slices.
@@ -195,7 +195,7 @@ fn kinds(tally: &mut Tally) {
     runs(tally, "the manual's kinds", &feed, &list, &work);
     tally.same("the manual's kinds: how many", &table.len(), &16, &[]);
     for (i, row) in table.iter().enumerate() {
-        tally.same("the manual's kinds: number", &(row[0].parse(), list[3 * i] as usize), &(Ok(i), i), &[]);
+        tally.same("the manual's kinds: number", &(row[0].parse::<usize>(), list[3 * i] as usize), &(Ok(i), i), &[]);
         for (operand, sort) in [(1, row[2]), (2, row[3])] {
             let (word, verdict) = match sort {
                 "class" | "label" | "0" => (1, (9, i as u32)),
@@ -265,7 +265,7 @@ fn refusals(tally: &mut Tally) {
 fn is_among(cell: &str, number: u32) -> bool {
     cell.split(", ").any(|part| {
         let (low, high) = part.split_once(" to ").unwrap_or((part, part));
-        (low.parse().unwrap_or(99)..=high.parse().unwrap_or(99)).contains(&number)
+        low.parse().map_or(false, |low: u32| low <= number) && high.parse().map_or(false, |high: u32| number <= high)
     })
 }
 

@@ -132,7 +132,7 @@ pub fn table(tally: &mut Tally) {
         let limit: u32 = row[1].replace(',', "").parse().unwrap();
         // rows of four words
         let next = limit + if row[0] == "row words of a sheet" { 4 } else { 1 };
-        let past = row[2].split(',').next().unwrap().parse();
+        let past = row[2].split(',').next().unwrap().parse::<u32>();
         tally.same(&format!("the manual's limit, {}", row[0]), &probe(row[0], limit), &0, &[limit]);
         tally.same(&format!("past the manual's limit, {}", row[0]), &Ok(probe(row[0], next)), &past, &[next]);
         let sentence = SENTENCES.iter().find(|(name, _)| *name == row[0]).map_or("no sentence names it", |(_, sentence)| sentence);
