@@ -7,6 +7,7 @@ mod checks;
 mod examples;
 mod manual;
 mod manual_limits;
+mod manual_sheets;
 #[path = "../../../include/matcher.rs"]
 mod matcher;
 #[allow(dead_code)]

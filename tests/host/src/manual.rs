@@ -2,12 +2,12 @@
 //! Code blocks are found by the name behind ```text, tables by the heading above them.
 
 use crate::manual_limits;
+use crate::manual_sheets;
 use crate::matcher;
 use crate::model::{self, Verdict, ACCEPTED};
 use crate::sheet_model;
 use crate::Tally;
-
-const MANUAL: &str = include_str!("../../../docs/MANUAL.md");
+use std::sync::OnceLock;
 
 // ---- the library: all calls of these tests
 
@@ -47,17 +47,27 @@ pub fn listing(sheet: &[u8]) -> String {
 
 // ---- the manual's text
 
+/// A file of the repository, from whose root the tests are run.
+pub fn file(path: &str) -> String {
+    std::fs::read_to_string(path).unwrap_or_else(|error| panic!("{path}: {error}"))
+}
+
+fn manual() -> &'static str {
+    static TEXT: OnceLock<String> = OnceLock::new();
+    TEXT.get_or_init(|| file("docs/MANUAL.md"))
+}
+
 /// The lines of the code block of this name.
 fn block(name: &str) -> Vec<&'static str> {
     let fence = format!("```text {name}");
-    let lines = MANUAL.lines().skip_while(|line| *line != fence).skip(1);
+    let lines = manual().lines().skip_while(|line| *line != fence).skip(1);
     let lines: Vec<_> = lines.take_while(|line| *line != "```").collect();
     assert!(!lines.is_empty(), "docs/MANUAL.md has no code block {name}");
     lines
 }
 
 /// The block as text.
-fn text(name: &str) -> String {
+pub fn text(name: &str) -> String {
     block(name).join("\n") + "\n"
 }
 
@@ -85,7 +95,7 @@ fn line_of(name: &str, first: &str) -> Vec<u32> {
 
 /// The cells of the first table below this heading, without its head.
 pub fn table(heading: &str) -> Vec<Vec<&'static str>> {
-    let lines = MANUAL.lines().skip_while(|line| *line != heading).skip_while(|line| !line.starts_with('|'));
+    let lines = manual().lines().skip_while(|line| *line != heading).skip_while(|line| !line.starts_with('|'));
     let rows = lines.take_while(|line| line.starts_with('|')).skip(2);
     let rows: Vec<Vec<_>> = rows.map(|line| line.trim_matches('|').split('|').map(str::trim).collect()).collect();
     assert!(!rows.is_empty(), "docs/MANUAL.md has no table below {heading}");
@@ -94,7 +104,7 @@ pub fn table(heading: &str) -> Vec<Vec<&'static str>> {
 
 /// The manual has this sentence, however its lines are broken.
 pub fn says(tally: &mut Tally, sentence: &str) {
-    let text = MANUAL.split_whitespace().collect::<Vec<_>>().join(" ");
+    let text = manual().split_whitespace().collect::<Vec<_>>().join(" ");
     tally.same(&format!("the manual says '{sentence}'"), &text.contains(sentence), &true, &[]);
 }
 
@@ -222,7 +232,7 @@ fn reductions(tally: &mut Tally) {
 fn whole_sample(tally: &mut Tally) {
     let case = sample(tally);
     let sheet = text("sample-sheet");
-    tally.same("the manual's sample is that of examples", &sheet[..], include_str!("../../../examples/sample.sheet"), &[]);
+    tally.same("the manual's sample is that of examples", &sheet, &file("examples/sample.sheet"), &[]);
     let read = sheet_model::read(sheet.as_bytes()).map(|sheet| (sheet.feed(), sheet.drawing()));
     tally.same("the sample's words", &read.ok(), &Some((case.feed.clone(), case.drawing.clone())), &[]);
     answers(tally, "the manual's sample", &case, &numbers(&text("sample-rows")));
@@ -231,14 +241,14 @@ fn whole_sample(tally: &mut Tally) {
     tally.same("the sample's listing", &listing(sheet.as_bytes()), &text("sample-listing"), &[]);
     says(tally, &format!("Its translation has {} instructions, {} words.", case.list.len() / 3, case.list.len()));
     says(tally, &format!("{} pairs in {} words.", work.len() / 2, work.len()));
+    says(tally, "is 65,536 × (r + 1) + p.");
+    says(tally, &format!("65,536 × 9 = {} and {}:", with_comma(65_536 * 9), with_comma(65_536 * 9 + 1)));
+    tally.same("the sample's tags", &[work[54], work[56]], &[65_536 * 9, 65_536 * 9 + 1], &[]);
 }
 
-/// Sections 2 and 3: listings.
-fn listings(tally: &mut Tally) {
-    let bottle = include_str!("../../../examples/bottle.sheet");
-    tally.same("the bottle's listing", &listing(bottle.as_bytes()), &text("bottle-listing"), &[]);
-    let named = "class object\na 1\na 2\n\nlabel from to\nl 1 2\n\nnode class pick\nrefused a 1\nb a 1\n\nedge source target\nl refused b\n";
-    tally.same("a node named refused", &listing(named.as_bytes()), &text("listing-of-a-node-named-refused"), &[]);
+/// A number of four to six digits as the manual prints it.
+fn with_comma(n: u32) -> String {
+    format!("{},{:03}", n / 1000, n % 1000)
 }
 
 // ---- refusals
@@ -255,7 +265,11 @@ fn refusals(tally: &mut Tally) {
             None => format!("refused {} {}\n", ask(call, &case).verdict.0, ask(call, &case).verdict.1),
         };
         tally.same(&format!("the manual's '{given}'"), &found, &format!("refused {answer}\n"), &[]);
-        tally.same(&format!("the number of '{given}'"), &answer.split(' ').next(), &Some(row[0]), &[]);
+        let (number, place) = answer.split_once(' ').unwrap();
+        tally.same(&format!("the number of '{given}'"), number, row[0], &[]);
+        if row[2].parse::<u32>().is_ok() {
+            tally.same(&format!("the place of '{given}'"), place, row[2], &[]);
+        }
         met[row[0].parse::<usize>().unwrap()] = true;
     }
     tally.same("the manual has every refusal", &met[1..], &[true; 14][..], &[]);
@@ -326,7 +340,7 @@ pub fn examples(tally: &mut Tally) {
     kinds(tally);
     reductions(tally);
     whole_sample(tally);
-    listings(tally);
+    manual_sheets::all(tally);
     refusals(tally);
     leaves(tally);
 }

@@ -1,6 +1,6 @@
 //! The manual's table of limits: each is met, and passed by one (or by as little as there is) with the refusal that is named.
 
-use crate::manual::{self, ask, listing, says, Case};
+use crate::manual::{self, ask, file, listing, says, Case};
 use crate::Tally;
 
 /// Words in a row.
@@ -110,21 +110,21 @@ fn probe(limit: &str, n: u32) -> u32 {
     }
 }
 
-/// Where the text names a limit of the table, too.
-const SENTENCES: [(&str, &str); 13] = [
-    ("classes of a feed", "C, the number of classes, 0 to {}"),
-    ("labels of a feed", "L, the number of labels, 0 to {}"),
-    ("pairs of a table", "how many pairs each table has, 0 to {}:"),
-    ("an object", "each a number from 0 to {}."),
-    ("nodes of a drawing", "n, the number of nodes, 1 to {}"),
-    ("edges of a drawing", "e, the number of edges, 0 to {}"),
-    ("instructions of a list", "A list is 1 to {} instructions"),
-    ("pairs of a register", "a register of more than {} pairs"),
-    ("bytes of a sheet", "At most {} bytes."),
-    ("letters of a name", "name = 1 to {} letters"),
-    ("digits of a number", "number = 1 to {} digits"),
-    ("pairs of a sheet's registers together", "16,384 work words ({} pairs)"),
-    ("row words of a sheet", "and {} row words"),
+/// Where else the manual names a limit of the table.
+const SENTENCES: [(&str, &[&str]); 13] = [
+    ("classes of a feed", &["C, the number of classes, 0 to {}", "a line past {} classes,", "| C over {} |"]),
+    ("labels of a feed", &["L, the number of labels, 0 to {}", "classes, {} labels,", "| L over {} |"]),
+    ("pairs of a table", &["how many pairs each table has, 0 to {}:", "a count over {} |"]),
+    ("an object", &["each a number from 0 to {}.", "No value is above {}.", "a value above {}, left"]),
+    ("nodes of a drawing", &["n, the number of nodes, 1 to {}", "labels, {} nodes", "n not 1 to {},"]),
+    ("edges of a drawing", &["e, the number of edges, 0 to {}", "nodes or {} edges", "or e over {} |"]),
+    ("instructions of a list", &["A list is 1 to {} instructions", "no instruction, or over {} |"]),
+    ("pairs of a register", &["a register of more than {} pairs"]),
+    ("bytes of a sheet", &["At most {} bytes.", "A sheet of more than {} bytes is 14 at place 0", "| a sheet of more than {} bytes |"]),
+    ("letters of a name", &["name = 1 to {} letters"]),
+    ("digits of a number", &["number = 1 to {} digits"]),
+    ("pairs of a sheet's registers together", &["16,384 work words ({} pairs)"]),
+    ("row words of a sheet", &["and {} row words"]),
 ];
 
 pub fn table(tally: &mut Tally) {
@@ -135,12 +135,17 @@ pub fn table(tally: &mut Tally) {
         let past = row[2].split(',').next().unwrap().parse::<u32>();
         tally.same(&format!("the manual's limit, {}", row[0]), &probe(row[0], limit), &0, &[limit]);
         tally.same(&format!("past the manual's limit, {}", row[0]), &Ok(probe(row[0], next)), &past, &[next]);
-        let sentence = SENTENCES.iter().find(|(name, _)| *name == row[0]).map_or("no sentence names it", |(_, sentence)| sentence);
-        says(tally, &sentence.replace("{}", row[1]));
+        let sentences = SENTENCES.iter().find(|(name, _)| *name == row[0]).map_or(&["no limit of the table"][..], |(_, sentences)| sentences);
+        sentences.iter().for_each(|sentence| says(tally, &sentence.replace("{}", row[1])));
     }
     // what no probe can show is at least the header's number, too
-    let header = include_str!("../../../include/matcher.h");
-    for (before, number, after) in [("No translation has more than", "864", "instructions"), ("No listing has more than", "24,732", "bytes")] {
+    let header = file("include/matcher.h");
+    let numbers = [
+        ("No translation has more than", "864", "instructions"),
+        ("No listing has more than", "24,732", "bytes"),
+        ("No listing is longer than", "24,732", "bytes"),
+    ];
+    for (before, number, after) in numbers {
         says(tally, &format!("{before} {number} {after}"));
         tally.same(&format!("the header says {number}"), &header.contains(number), &true, &[]);
     }
