@@ -57,7 +57,8 @@ fn frames(tally: &mut Tally) {
         let (found, f) = asked(&without(name));
         tally.same(&format!("no {name}in the frame"), &found, &(14, f + 3 + line), &[f]);
     }
-    for broken in ["", "class object\n", "class object", "class object\ncap 1\n\nlabel from to", "class object\ncap 1\n\nlabel from to\ncovers 1\n", sheet.as_str()] {
+    let cut = ["", "class object\n", "class object", "class object\ncap 1\n\nlabel from to", "class object\ncap 1\n\nlabel from to\ncovers 1\n"];
+    for broken in cut.into_iter().chain([sheet.as_str()]) {
         let (found, f) = asked(broken);
         tally.same(&format!("the frame {broken:?}"), &(found.0, found.1 < f + 3), &(14, true), &[f, found.1]);
     }
