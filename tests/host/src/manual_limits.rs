@@ -139,7 +139,7 @@ pub fn table(tally: &mut Tally) {
         sentences.iter().for_each(|sentence| says(tally, &sentence.replace("{}", row[1])));
     }
     // what no probe can show is at least the header's number, too
-    let header = file("include/matcher.h");
+    let header = file("include/matcher.h").replace(',', "");
     let numbers = [
         ("No translation has more than", "864", "instructions"),
         ("No listing has more than", "24,732", "bytes"),
@@ -147,6 +147,6 @@ pub fn table(tally: &mut Tally) {
     ];
     for (before, number, after) in numbers {
         says(tally, &format!("{before} {number} {after}"));
-        tally.same(&format!("the header says {number}"), &header.contains(number), &true, &[]);
+        tally.same(&format!("the header says {number}"), &header.contains(&number.replace(',', "")), &true, &[]);
     }
 }
