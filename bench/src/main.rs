@@ -9,13 +9,10 @@ mod operators;
 mod peer;
 mod report;
 
-// shared with the tests: the call, and random feeds and lists
+// shared with the tests: random feeds and lists
 #[allow(dead_code)]
 #[path = "../../tests/host/src/cases.rs"]
 mod cases;
-#[allow(dead_code)]
-#[path = "../../include/matcher.rs"]
-mod matcher;
 #[allow(dead_code)]
 #[path = "../../tests/host/src/model.rs"]
 mod model;

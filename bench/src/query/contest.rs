@@ -5,7 +5,6 @@ use crate::backtracking::Index;
 use crate::clock::{median, now};
 use crate::drawings::Drawing;
 use crate::frame::Frame;
-use crate::matcher;
 use crate::proved::Proved;
 use crate::sqlite::{Database, Statement};
 

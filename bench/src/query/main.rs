@@ -18,9 +18,6 @@ mod sqlite;
 mod clock;
 #[path = "../figures.rs"]
 mod figures;
-#[allow(dead_code)]
-#[path = "../../../include/matcher.rs"]
-mod matcher;
 #[path = "../peer.rs"]
 mod peer;
 #[allow(dead_code)]

@@ -1,7 +1,6 @@
 //! The proved query.
 
 use crate::contest::{Matcher, Rows};
-use crate::matcher;
 
 /// A feed and a drawing, with the slices that are lent.
 pub struct Proved<'f> {
@@ -22,11 +21,6 @@ impl<'f> Proved<'f> {
 impl Matcher for Proved<'_> {
     fn ask(&mut self) -> Rows<'_> {
         let Proved { feed, drawing, list, work, rows } = self;
-        let ((number, place), extent) = matcher::query(feed, drawing, list, work, rows);
-        if number == 0 {
-            Ok(&rows[..extent])
-        } else {
-            Err((number, place))
-        }
+        matcher::query(feed, drawing, list, work, rows).map_err(|refusal| (refusal.number, refusal.place))
     }
 }

@@ -1,10 +1,9 @@
 //! The checks of feeds and drawings against the model: valid ones, and damaged in one and in two places.
 
 use crate::cases;
-use crate::matcher;
 use crate::model;
 use crate::random::Random;
-use crate::Tally;
+use crate::{said, Tally};
 
 /// Two changes of one valid input, alone and together: the verdicts of the two causes, and the words with both.
 pub fn twice_damaged(r: &mut Random, valid: &[u32], check: impl Fn(&[u32]) -> model::Verdict) -> (u32, u32, Vec<u32>) {
@@ -69,7 +68,7 @@ pub fn feeds(tally: &mut Tally, cases: usize) {
         };
         let expected = model::check_feed(&feed);
         met[expected.0 as usize] += 1;
-        tally.same("check_feed", &matcher::check_feed(&feed), &expected, &feed);
+        tally.same("check_feed", &said(&matcher::check_feed(&feed)), &expected, &feed);
     }
     tally.met("feeds by number", &met);
     causes.show(tally, "feeds", 1, 4);
@@ -105,7 +104,7 @@ pub fn drawings(tally: &mut Tally, cases: usize) {
         };
         let expected = model::check_drawing(&feed, &drawing);
         met[expected.0 as usize] += 1;
-        tally.same("check_drawing", &matcher::check_drawing(&feed, &drawing), &expected, &drawing);
+        tally.same("check_drawing", &said(&matcher::check_drawing(&feed, &drawing)), &expected, &drawing);
     }
     tally.met("drawings by number", &met);
     causes.show(tally, "drawings", 5, 6);
@@ -115,20 +114,20 @@ pub fn drawings(tally: &mut Tally, cases: usize) {
 pub fn ceilings(tally: &mut Tally) {
     let mut full = vec![32, 64];
     full.extend([0; 96]);
-    tally.same("32 classes, 64 labels", &matcher::check_feed(&full), &(0, 0), &full);
+    tally.same("32 classes, 64 labels", &said(&matcher::check_feed(&full)), &(0, 0), &full);
     let mut many = vec![1, 0, 4096];
     many.extend((0..4096).flat_map(|i| [i, i]));
-    tally.same("4,096 pairs", &matcher::check_feed(&many), &(0, 0), &[]);
+    tally.same("4,096 pairs", &said(&matcher::check_feed(&many)), &(0, 0), &[]);
     many[2] = 4097;
     many.extend([4096, 4096]);
-    tally.same("4,097 pairs", &matcher::check_feed(&many), &(2, 2), &[]);
+    tally.same("4,097 pairs", &said(&matcher::check_feed(&many)), &(2, 2), &[]);
     for (object, verdict) in [(65_535, (0, 0)), (65_536, (3, 3))] {
-        tally.same("object ceiling", &matcher::check_feed(&[1, 0, 1, object, object]), &verdict, &[object]);
+        tally.same("object ceiling", &said(&matcher::check_feed(&[1, 0, 1, object, object])), &verdict, &[object]);
     }
     let feed = [1, 0, 0];
     for (n, verdict) in [(12u32, (0, 0)), (13, (5, 0))] {
         let mut drawing = vec![n, 0];
         drawing.extend((0..n).flat_map(|_| [0, 1]));
-        tally.same("12 nodes pass, 13 give 5", &matcher::check_drawing(&feed, &drawing), &verdict, &drawing);
+        tally.same("12 nodes pass, 13 give 5", &said(&matcher::check_drawing(&feed, &drawing)), &verdict, &drawing);
     }
 }

@@ -5,15 +5,15 @@
 mod cases;
 mod checks;
 mod examples;
+mod listings;
 mod manual;
 mod manual_limits;
 mod manual_sheets;
-#[path = "../../../include/matcher.rs"]
-mod matcher;
 #[allow(dead_code)]
 mod model;
 mod queries;
 mod random;
+mod raw;
 mod runs;
 mod search;
 mod sheet_cases;
@@ -21,6 +21,7 @@ mod sheet_model;
 mod sheets;
 mod stack;
 
+use matcher::Refusal;
 use std::fmt::Debug;
 
 #[derive(Default)]
@@ -69,6 +70,14 @@ impl Tally {
     }
 }
 
+/// The number and the place that an answer says, both 0 where it is no refusal.
+pub fn said<T>(answer: &Result<T, Refusal>) -> model::Verdict {
+    match answer {
+        Ok(_) => model::ACCEPTED,
+        Err(refusal) => (refusal.number, refusal.place),
+    }
+}
+
 /// Some hundred cases of every call.
 fn few(tally: &mut Tally) {
     checks::feeds(tally, 100);
@@ -83,6 +92,8 @@ fn few(tally: &mut Tally) {
     sheets::named(tally);
     sheets::ceilings(tally);
     sheets::random(tally, 300);
+    listings::longest(tally);
+    raw::all(tally, 100);
 }
 
 fn main() {
@@ -108,6 +119,9 @@ fn main() {
     sheets::ceilings(&mut tally);
     sheets::mutations(&mut tally);
     sheets::random(&mut tally, 100_000);
+    listings::lengths(&mut tally);
+    listings::longest(&mut tally);
+    raw::all(&mut tally, 20_000);
     stack::all(&mut tally);
     tally.end();
 }

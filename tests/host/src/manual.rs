@@ -3,10 +3,10 @@
 
 use crate::manual_limits;
 use crate::manual_sheets;
-use crate::matcher;
 use crate::model::{self, Verdict, ACCEPTED};
 use crate::sheet_model;
-use crate::Tally;
+use crate::{said, Tally};
+use matcher::Refusal;
 use std::sync::OnceLock;
 
 // ---- the library: all calls of these tests
@@ -30,19 +30,22 @@ pub fn ask(call: &str, case: &Case) -> Left {
     let [mut list, mut work, mut rows] = case.lengths.map(lent);
     let (feed, drawing) = (&case.feed[..], &case.drawing[..]);
     let (verdict, count) = match call {
-        "matcher_check_feed" => (matcher::check_feed(feed), 0),
-        "matcher_check_drawing" => (matcher::check_drawing(feed, drawing), 0),
-        "matcher_translate" => matcher::translate(feed, drawing, &mut list),
-        "matcher_run" => (matcher::run(feed, &case.list, &mut work), 0),
-        _ => matcher::query(feed, drawing, &mut list, &mut work, &mut rows),
+        "matcher_check_feed" => (said(&matcher::check_feed(feed)), 0),
+        "matcher_check_drawing" => (said(&matcher::check_drawing(feed, drawing)), 0),
+        "matcher_translate" => counted(matcher::translate(feed, drawing, &mut list)),
+        "matcher_run" => (said(&matcher::run(feed, &case.list, &mut work)), 0),
+        _ => counted(matcher::query(feed, drawing, &mut list, &mut work, &mut rows).map(<[u32]>::len)),
     };
     Left { verdict, list, work, rows, count }
 }
 
+fn counted(answer: Result<usize, Refusal>) -> (Verdict, usize) {
+    (said(&answer), answer.unwrap_or(0))
+}
+
 pub fn listing(sheet: &[u8]) -> String {
-    let mut listing = vec![b'~'; 30_000];
-    let length = matcher::sheet_query(sheet, &mut listing);
-    String::from_utf8(listing[..length].to_vec()).unwrap()
+    let mut listing = [b'~'; matcher::LISTING_BYTES];
+    String::from_utf8(matcher::sheet_query(sheet, &mut listing).unwrap_or_default().to_vec()).unwrap()
 }
 
 // ---- the manual's text

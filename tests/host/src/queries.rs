@@ -2,11 +2,10 @@
 
 use crate::cases;
 use crate::checks::Causes;
-use crate::matcher;
 use crate::model::{self, Answer, Drawing, Feed, Plan, Verdict};
 use crate::random::Random;
 use crate::search;
-use crate::Tally;
+use crate::{said, Tally};
 use std::collections::{BTreeMap, BTreeSet};
 
 // ---- one call
@@ -43,9 +42,12 @@ pub fn ask(tally: &mut Tally, feed: &[u32], drawing: &[u32], plan: &Result<Plan,
         Ok(plan) => plan.answer(&before[0], &before[1], &before[2]),
         Err(verdict) => model::refusal(*verdict, &before[0], &before[1], &before[2]),
     };
-    let (verdict, extent) = matcher::query(feed, drawing, slice(&mut list), slice(&mut work), slice(&mut rows));
+    let found = matcher::query(feed, drawing, slice(&mut list), slice(&mut work), slice(&mut rows));
+    let (verdict, given) = (said(&found), found.unwrap_or(&[]).to_vec());
+    let extent = given.len();
     let input = [feed, drawing, &lengths.map(|n| n as u32)].concat();
     tally.same("query", &(verdict, extent), &(expected.verdict, expected.extent), &input);
+    tally.same("query's answer", &given[..], &expected.rows[..expected.extent], &input);
     tally.same("query's list", &first_difference(&list, &expected.list), &None, &input);
     tally.same("query's work slice", &first_difference(&work, &expected.work), &None, &input);
     tally.same("query's rows", &first_difference(&rows, &expected.rows), &None, &input);
@@ -63,9 +65,9 @@ pub fn ask_list(tally: &mut Tally, feed: &[u32], drawing: &[u32], plan: &Result<
     };
     let found = matcher::translate(feed, drawing, slice(&mut list));
     let input = [feed, drawing, &[length as u32]].concat();
-    tally.same("translate", &found, &(verdict, instructions), &input);
+    tally.same("translate", &(said(&found), found.unwrap_or(0)), &(verdict, instructions), &input);
     tally.same("translate's list", &first_difference(&list, &expected), &None, &input);
-    found.0 .0
+    said(&found).0
 }
 
 // ---- many lengths

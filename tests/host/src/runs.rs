@@ -2,10 +2,9 @@
 
 use crate::cases;
 use crate::checks::{twice_damaged, Causes};
-use crate::matcher;
 use crate::model;
 use crate::random::Random;
-use crate::Tally;
+use crate::{said, Tally};
 
 /// Words on both sides of the lent slice, which must stay as they are.
 const GUARD: usize = 3;
@@ -28,7 +27,7 @@ fn compare(
     let mut lent = wanted.clone();
     let (verdict, after) = expected(&wanted[GUARD..GUARD + words]);
     wanted[GUARD..GUARD + words].copy_from_slice(&after);
-    let found = matcher::run(feed, list, &mut lent[GUARD..GUARD + words]);
+    let found = said(&matcher::run(feed, list, &mut lent[GUARD..GUARD + words]));
     tally.same(what, &found, &verdict, list);
     let other = lent.iter().zip(&wanted).position(|(x, y)| x != y).map(|at| (at as isize - GUARD as isize, lent[at], wanted[at]));
     tally.same(&format!("{what}, {words} words: place, found, expected"), &other, &None, list);
