@@ -5,6 +5,7 @@
 mod cases;
 mod checks;
 mod examples;
+mod listings;
 mod manual;
 mod manual_limits;
 mod manual_sheets;
@@ -83,6 +84,7 @@ fn few(tally: &mut Tally) {
     sheets::named(tally);
     sheets::ceilings(tally);
     sheets::random(tally, 300);
+    listings::longest(tally);
 }
 
 fn main() {
@@ -108,6 +110,8 @@ fn main() {
     sheets::ceilings(&mut tally);
     sheets::mutations(&mut tally);
     sheets::random(&mut tally, 100_000);
+    listings::lengths(&mut tally);
+    listings::longest(&mut tally);
     stack::all(&mut tally);
     tally.end();
 }
