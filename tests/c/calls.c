@@ -137,6 +137,7 @@ static void checks(struct tally *t)
 {
     static const uint32_t unequal[] = {1, 0, 1, 5, 6};
     static const uint32_t unknown[] = {1, 0, 7, 1};
+    static const uint32_t both[] = {1, 0, 0, 1};
     struct answer a;
     uint32_t number = matcher_check_feed(FEED, &ready(&a)->place);
     says(t, "check_feed", number, &a, 0, 0);
@@ -146,9 +147,9 @@ static void checks(struct tally *t)
     says(t, "check_drawing", number, &a, 0, 0);
     number = matcher_check_drawing(FEED, unknown, COUNT(unknown), &ready(&a)->place);
     says(t, "check_drawing, refused", number, &a, 6, 2);
-    /* slices that are only read may overlap: the drawing as a feed, too, is refused as a feed */
-    number = matcher_check_drawing(DRAWING, DRAWING, &ready(&a)->place);
-    says(t, "check_drawing, one slice twice", number, &a, 1, 0);
+    /* slices that are only read may overlap: one class without objects, and one node of it */
+    number = matcher_check_drawing(both, 3, both, 4, &ready(&a)->place);
+    says(t, "check_drawing, overlapping", number, &a, 0, 0);
 }
 
 static void translations(struct tally *t)
