@@ -6,6 +6,9 @@ mod cases;
 mod checks;
 mod examples;
 mod listings;
+mod manual;
+mod manual_limits;
+mod manual_sheets;
 #[allow(dead_code)]
 mod model;
 mod queries;
@@ -85,6 +88,7 @@ fn few(tally: &mut Tally) {
     runs::random(tally, 100);
     runs::long(tally, 2);
     examples::sources(tally);
+    manual::examples(tally);
     queries::few(tally, 100);
     sheets::named(tally);
     sheets::ceilings(tally);
@@ -111,6 +115,7 @@ fn main() {
     runs::large(&mut tally, 800);
     examples::belt(&mut tally);
     examples::sources(&mut tally);
+    manual::all(&mut tally);
     queries::all(&mut tally, 66_000);
     sheets::named(&mut tally);
     sheets::ceilings(&mut tally);
