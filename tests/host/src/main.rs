@@ -5,6 +5,7 @@
 mod cases;
 mod checks;
 mod examples;
+mod listings;
 #[path = "../../../include/matcher.rs"]
 mod matcher;
 #[allow(dead_code)]
@@ -79,6 +80,7 @@ fn few(tally: &mut Tally) {
     sheets::named(tally);
     sheets::ceilings(tally);
     sheets::random(tally, 300);
+    listings::longest(tally);
 }
 
 fn main() {
@@ -103,6 +105,8 @@ fn main() {
     sheets::ceilings(&mut tally);
     sheets::mutations(&mut tally);
     sheets::random(&mut tally, 100_000);
+    listings::lengths(&mut tally);
+    listings::longest(&mut tally);
     stack::all(&mut tally);
     tally.end();
 }

@@ -17,7 +17,7 @@ fn pattern(i: usize) -> u8 {
 }
 
 /// A call with a slice of so many bytes, and some on both sides that must stay as they are.
-fn ask(tally: &mut Tally, what: &str, sheet: &[u8], text: &[u8], length: usize, beside: usize) {
+pub fn ask(tally: &mut Tally, what: &str, sheet: &[u8], text: &[u8], length: usize, beside: usize) {
     let mut wanted: Vec<u8> = (0..length + 2 * beside).map(pattern).collect();
     let mut lent = wanted.clone().into_boxed_slice();
     let returned = sheet_model::listed(text, &mut wanted[beside..beside + length]);
@@ -93,7 +93,7 @@ const SAMPLE: &str = "class object\nregion 1\nregion 2\nregion 3\nregion 4\n\nla
     node class pick\na region 1\nm region 0\nb region 1\n\nedge source target\ntouch a m\ntouch m b\n";
 
 /// Sheets with the listings that document 01 fixes for them.
-const CASES: [(&str, &str); 34] = [
+pub const CASES: [(&str, &str); 34] = [
     (SAMPLE, "a b\n1 3\n2 4\n"),
     // classes are numbered by first appearance, and their lines regrouped; no rows print the names only
     ("class object\nb 1\na 2\nb 3\n\nlabel from to\n\nnode class pick\nx b 1\n\nedge source target\n", "x\n1\n3\n"),

@@ -1,5 +1,5 @@
-//! How deep the calls go into the stack, measured on a thread whose stack is filled with a pattern first; and that they run on threads
-//! with small stacks.
+//! How deep each call of the header goes into the stack, measured on a thread whose stack is filled with a pattern first, against the
+//! header's table; and that the calls run on threads with little more than that.
 
 use crate::cases;
 use crate::matcher;
@@ -92,6 +92,21 @@ fn large_queries() -> Vec<Words> {
     drawings.map(|drawing| (feed.clone(), drawing)).into()
 }
 
+/// The number of a check.
+fn check_feed((feed, _): &Words) -> usize {
+    matcher::check_feed(feed).0 as usize
+}
+
+/// The number of a check.
+fn check_drawing((feed, drawing): &Words) -> usize {
+    matcher::check_drawing(feed, drawing).0 as usize
+}
+
+/// How many instructions a translation has.
+fn translate((feed, drawing): &Words) -> usize {
+    matcher::translate(feed, drawing, &mut vec![0; 3_072]).1
+}
+
 /// The number of a run.
 fn run((feed, list): &Words) -> usize {
     matcher::run(feed, list, &mut vec![0; 800_000]).0 as usize
@@ -108,27 +123,60 @@ fn sheet_query(sheet: &Vec<u8>) -> usize {
     matcher::sheet_query(sheet, &mut vec![0; 30_000])
 }
 
-/// All cases of a call, measured, and then on a thread with a stack of this size.
-fn check<T: Sync>(tally: &mut Tally, what: &str, cases: &[T], call: fn(&T) -> usize, bytes: usize) {
+// ---- the header's table
+
+const HEADER: &str = include_str!("../../../include/matcher.h");
+
+/// The calls that the header declares.
+fn declared() -> Vec<&'static str> {
+    let call = |line: &'static str| line.strip_prefix("uint32_t ").or(line.strip_prefix("size_t "))?.split_once('(');
+    HEADER.lines().filter_map(call).map(|(name, _)| name).collect()
+}
+
+/// The calls of its table, each with the stack that it needs, in bytes.
+fn table() -> Vec<(&'static str, usize)> {
+    let entry = |line: &'static str| {
+        let fields: Vec<&str> = line.strip_prefix(" * ")?.split_whitespace().collect();
+        let [call, figure] = fields[..] else { return None };
+        Some((call.strip_prefix("matcher_").map(|_| call)?, figure.parse::<usize>().ok()? * KIB))
+    };
+    HEADER.lines().filter_map(entry).collect()
+}
+
+/// All cases of a call, measured against the header's figure, and then on a thread with little more.
+fn check<T: Sync>(tally: &mut Tally, name: &'static str, cases: &[T], call: fn(&T) -> usize) -> &'static str {
     let mut answers = vec![0; cases.len()];
     let depths = cases.iter().zip(&mut answers).map(|(case, answer)| depth(&mut || *answer = call(case)));
     let deepest = depths.max().unwrap();
-    println!("stack of {what}: {deepest} bytes");
-    // a thread's own data stands on its stack, too
-    let fits = deepest + 16 * KIB <= bytes;
-    tally.same(&format!("{what} fits a stack of {bytes} bytes"), &fits, &true, &[deepest as u32]);
-    if fits {
+    let stated = table().iter().find(|entry| entry.0 == name).map_or(0, |entry| entry.1);
+    println!("stack of {name}: {deepest} bytes, stated {stated}");
+    // a figure may be high by what rounding and another compiler take, not more
+    let within = deepest <= stated && stated <= deepest + deepest / 16 + 4 * KIB;
+    tally.same(&format!("{name}: the header's figure"), &within, &true, &[deepest as u32, stated as u32]);
+    if within {
+        // a thread's own data stands on its stack, too
+        let bytes = stated + 16 * KIB;
         let again: Vec<usize> = std::thread::scope(|scope| {
             let thread = std::thread::Builder::new().stack_size(bytes);
             thread.spawn_scoped(scope, || cases.iter().map(call).collect()).unwrap().join().unwrap()
         });
-        tally.same(&format!("{what} on a stack of {bytes} bytes"), &again, &answers, &[]);
+        tally.same(&format!("{name} on a stack of {bytes} bytes"), &again, &answers, &[]);
     }
+    name
 }
 
 pub fn all(tally: &mut Tally) {
     let sheets: Vec<Vec<u8>> = sheets::at_ceilings().into_iter().map(|case| case.sheet).collect();
-    check(tally, "the sheet query", &sheets, sheet_query, 512 * KIB);
-    check(tally, "the run", &large_runs(), run, 1_024 * KIB);
-    check(tally, "the query", &large_queries(), query, 1_024 * KIB);
+    let (runs, queries) = (large_runs(), large_queries());
+    let measured = vec![
+        check(tally, "matcher_check_feed", &queries, check_feed),
+        check(tally, "matcher_check_drawing", &queries, check_drawing),
+        check(tally, "matcher_translate", &queries, translate),
+        check(tally, "matcher_run", &runs, run),
+        check(tally, "matcher_query", &queries, query),
+        check(tally, "matcher_sheet_query", &sheets, sheet_query),
+    ];
+    tally.same("calls measured, and those of the header", &measured, &declared(), &[]);
+    let stated: Vec<&str> = table().iter().map(|entry| entry.0).collect();
+    tally.same("calls of the header's table, and those of the header", &stated, &declared(), &[]);
 }

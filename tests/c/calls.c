@@ -1,0 +1,363 @@
+/* Every call of matcher.h from C: the sample's answers, with words before and behind all that is written; slices of length 0 at a null
+ * pointer; slices that were never written, for valgrind; and several threads at once. Compiled as C99 and as C++.
+ * The last line is 'N passed, M failed'. With `--few` the threads ask less often, for valgrind.
+ */
+#include "matcher.h"
+
+#include <pthread.h>
+#include <stdio.h>
+#include <stdlib.h>
+#include <string.h>
+
+/* ---- the sample: two regions with one between them */
+
+static const uint32_t feed[] = {1, 1, 4, 3, 1, 1, 2, 2, 3, 3, 4, 4, 1, 2, 2, 3, 3, 4};
+static const uint32_t drawing[] = {3, 2, 0, 1, 0, 0, 0, 1, 0, 0, 1, 0, 1, 2};
+static const uint32_t list[] = {0, 0, 0, 0, 0, 0, 0, 0, 0, 1, 0, 0, 1, 0, 0, 3, 3, 1, 3, 5, 4, 3, 0, 6, 3, 7, 2, 7, 8, 0, 8, 8, 0, 9, 8, 0};
+static const uint32_t registers[] = {
+    1, 1, 2, 2, 3, 3, 4, 4, 1, 1, 2, 2, 3, 3, 4, 4, 1, 1, 2, 2, 3, 3, 4, 4, /* the class, three times */
+    1, 2, 2, 3, 3, 4, 1, 2, 2, 3, 3, 4, 1, 2, 2, 3, 3, 4,                   /* the label twice, and its composition with m */
+    1, 3, 2, 4, 1, 3, 2, 4, 1, 3, 2, 4,                                     /* the chain, from a, to b */
+    589824, 1, 589825, 2, 589824, 3, 589825, 4,                             /* left tag, right tag */
+    589824, 589824, 589825, 589825                                          /* tau */
+};
+static const uint32_t rows[] = {1, 3, 2, 4};
+static const char sheet[] = "class object\nregion 1\nregion 2\nregion 3\nregion 4\n\nlabel from to\ntouch 1 2\ntouch 2 3\ntouch 3 4\n\n"
+                            "node class pick\na region 1\nm region 0\nb region 1\n\nedge source target\ntouch a m\ntouch m b\n";
+static const char listing[] = "a b\n1 3\n2 4\n";
+
+#define COUNT(words) (sizeof(words) / sizeof(words)[0])
+#define FEED feed, COUNT(feed)
+#define DRAWING drawing, COUNT(drawing)
+#define LIST list, COUNT(list)
+#define SHEET (const uint8_t *)sheet, sizeof sheet - 1
+
+/* ---- comparing */
+
+struct tally {
+    unsigned passed, failed;
+};
+
+static void same(struct tally *t, const char *what, size_t found, size_t expected)
+{
+    if (found == expected) {
+        t->passed++;
+        return;
+    }
+    if (++t->failed <= 10)
+        printf("%s: found %lu, expected %lu\n", what, (unsigned long)found, (unsigned long)expected);
+}
+
+/* ---- what is lent: guards stand before and behind it */
+
+enum { GUARD = 8, MOST = 80, ALL = GUARD + MOST + GUARD };
+
+#define FILL 0xa5a5a5a5u
+
+struct words {
+    uint32_t all[ALL];
+    size_t len;
+};
+
+struct bytes {
+    uint8_t all[ALL];
+    size_t len;
+};
+
+/* A place and a count. */
+struct answer {
+    uint32_t before, place, behind;
+    size_t before_count, count, behind_count;
+};
+
+static uint32_t *lend(struct words *lent, size_t len)
+{
+    memset(lent->all, FILL & 0xff, sizeof lent->all);
+    lent->len = len;
+    return lent->all + GUARD;
+}
+
+static uint8_t *lend_bytes(struct bytes *lent, size_t len)
+{
+    memset(lent->all, FILL & 0xff, sizeof lent->all);
+    lent->len = len;
+    return lent->all + GUARD;
+}
+
+static struct answer *ready(struct answer *a)
+{
+    memset(a, FILL & 0xff, sizeof *a);
+    return a;
+}
+
+/* The slice begins with these words, and `rest` stands behind them; the guards are as they were. */
+static void holds(struct tally *t, const char *what, const struct words *lent, const uint32_t *words, size_t n, uint32_t rest)
+{
+    size_t i, wrong = 0;
+    for (i = 0; i < ALL; i++) {
+        uint32_t expected = FILL;
+        if (i >= GUARD && i < GUARD + n)
+            expected = words[i - GUARD];
+        else if (i >= GUARD && i < GUARD + lent->len)
+            expected = rest;
+        wrong += lent->all[i] != expected;
+    }
+    same(t, what, wrong, 0);
+}
+
+/* The same for bytes. */
+static void holds_bytes(struct tally *t, const char *what, const struct bytes *lent, const char *text, size_t n, uint8_t rest)
+{
+    size_t i, wrong = 0;
+    for (i = 0; i < ALL; i++) {
+        uint8_t expected = FILL & 0xff;
+        if (i >= GUARD && i < GUARD + n)
+            expected = (uint8_t)text[i - GUARD];
+        else if (i >= GUARD && i < GUARD + lent->len)
+            expected = rest;
+        wrong += lent->all[i] != expected;
+    }
+    same(t, what, wrong, 0);
+}
+
+/* Number and place, and no word beside the place and the count. */
+static void says(struct tally *t, const char *what, uint32_t found, const struct answer *a, uint32_t number, uint32_t place)
+{
+    struct answer fresh;
+    ready(&fresh);
+    same(t, what, found, number);
+    same(t, what, a->place, place);
+    same(t, what, a->before == FILL && a->behind == FILL, 1);
+    same(t, what, a->before_count == fresh.count && a->behind_count == fresh.count, 1);
+}
+
+/* ---- the calls, accepted and refused */
+
+static void checks(struct tally *t)
+{
+    static const uint32_t unequal[] = {1, 0, 1, 5, 6};
+    static const uint32_t unknown[] = {1, 0, 7, 1};
+    static const uint32_t both[] = {1, 0, 0, 1};
+    struct answer a;
+    uint32_t number = matcher_check_feed(FEED, &ready(&a)->place);
+    says(t, "check_feed", number, &a, 0, 0);
+    number = matcher_check_feed(unequal, COUNT(unequal), &ready(&a)->place);
+    says(t, "check_feed, refused", number, &a, 4, 3);
+    number = matcher_check_drawing(FEED, DRAWING, &ready(&a)->place);
+    says(t, "check_drawing", number, &a, 0, 0);
+    number = matcher_check_drawing(FEED, unknown, COUNT(unknown), &ready(&a)->place);
+    says(t, "check_drawing, refused", number, &a, 6, 2);
+    /* slices that are only read may overlap: one class without objects, and one node of it */
+    number = matcher_check_drawing(both, 3, both, 4, &ready(&a)->place);
+    says(t, "check_drawing, overlapping", number, &a, 0, 0);
+}
+
+static void translations(struct tally *t)
+{
+    struct answer a;
+    struct words lent;
+    uint32_t *to = lend(&lent, COUNT(list) + 4);
+    uint32_t number = matcher_translate(FEED, DRAWING, to, lent.len, &ready(&a)->place, &a.count);
+    says(t, "translate", number, &a, 0, 0);
+    same(t, "translate, instructions", a.count, COUNT(list) / 3);
+    holds(t, "translate, list", &lent, LIST, 0);
+    to = lend(&lent, COUNT(list) - 1);
+    number = matcher_translate(FEED, DRAWING, to, lent.len, &ready(&a)->place, &a.count);
+    says(t, "translate, refused", number, &a, 13, COUNT(list) / 3);
+    same(t, "translate, refused, instructions", a.count, 0);
+    holds(t, "translate, refused, list", &lent, list, 0, FILL);
+}
+
+static void runs(struct tally *t)
+{
+    struct answer a;
+    struct words lent;
+    uint32_t *work = lend(&lent, COUNT(registers) + 3);
+    uint32_t number = matcher_run(FEED, LIST, work, lent.len, &ready(&a)->place);
+    says(t, "run", number, &a, 0, 0);
+    holds(t, "run, work", &lent, registers, COUNT(registers), 0);
+    work = lend(&lent, COUNT(registers) - 1);
+    number = matcher_run(FEED, LIST, work, lent.len, &ready(&a)->place);
+    says(t, "run, stopped", number, &a, 10, 11);
+    holds(t, "run, stopped, work", &lent, registers, COUNT(registers) - 4, 0);
+}
+
+/* A query with so many row words: its number, place and count, and what the row slice then holds. */
+static void one_query(struct tally *t, const char *what, size_t row_words, uint32_t number, size_t given, uint32_t rest)
+{
+    struct answer a;
+    struct words to, work, out;
+    uint32_t *l = lend(&to, COUNT(list)), *w = lend(&work, COUNT(registers)), *r = lend(&out, row_words);
+    uint32_t found = matcher_query(FEED, DRAWING, l, to.len, w, work.len, r, out.len, &ready(&a)->place, &a.count);
+    says(t, what, found, &a, number, 0);
+    same(t, what, a.count, given);
+    holds(t, what, &to, LIST, 0);
+    holds(t, what, &work, registers, COUNT(registers), 0);
+    holds(t, what, &out, rows, given, rest);
+}
+
+static void queries(struct tally *t)
+{
+    one_query(t, "query", COUNT(rows) + 3, 0, COUNT(rows), FILL);
+    one_query(t, "query, refused", COUNT(rows) - 1, 12, 0, 0);
+}
+
+static void sheets(struct tally *t)
+{
+    static const char refusal[] = "refused 14 1\n";
+    const size_t exact = sizeof listing - 1;
+    struct bytes lent;
+    uint8_t *to = lend_bytes(&lent, exact + 5);
+    same(t, "sheet_query", matcher_sheet_query(SHEET, to, lent.len), exact);
+    holds_bytes(t, "sheet_query, listing", &lent, listing, exact, FILL & 0xff);
+    to = lend_bytes(&lent, exact - 1);
+    same(t, "sheet_query, too short", matcher_sheet_query(SHEET, to, lent.len), 0);
+    holds_bytes(t, "sheet_query, too short, listing", &lent, listing, 0, 0);
+    to = lend_bytes(&lent, sizeof refusal - 1);
+    same(t, "sheet_query, refused", matcher_sheet_query((const uint8_t *)"x", 1, to, lent.len), sizeof refusal - 1);
+    holds_bytes(t, "sheet_query, refused, listing", &lent, refusal, sizeof refusal - 1, 0);
+}
+
+static void all_calls(struct tally *t)
+{
+    checks(t);
+    translations(t);
+    runs(t);
+    queries(t);
+    sheets(t);
+}
+
+/* ---- a null pointer with length 0, for every slice of every call */
+
+static void null_words(struct tally *t)
+{
+    struct answer a;
+    struct words to, work;
+    uint32_t *l = lend(&to, COUNT(list)), *w = lend(&work, COUNT(registers));
+    says(t, "check_feed, no feed", matcher_check_feed(NULL, 0, &ready(&a)->place), &a, 1, 0);
+    says(t, "check_drawing, no feed", matcher_check_drawing(NULL, 0, DRAWING, &ready(&a)->place), &a, 1, 0);
+    says(t, "check_drawing, no drawing", matcher_check_drawing(FEED, NULL, 0, &ready(&a)->place), &a, 5, 0);
+    says(t, "translate, no feed", matcher_translate(NULL, 0, DRAWING, l, to.len, &ready(&a)->place, &a.count), &a, 1, 0);
+    says(t, "translate, no drawing", matcher_translate(FEED, NULL, 0, l, to.len, &ready(&a)->place, &a.count), &a, 5, 0);
+    says(t, "translate, no list", matcher_translate(FEED, DRAWING, NULL, 0, &ready(&a)->place, &a.count), &a, 13, COUNT(list) / 3);
+    says(t, "run, no feed", matcher_run(NULL, 0, LIST, w, work.len, &ready(&a)->place), &a, 1, 0);
+    says(t, "run, no list", matcher_run(FEED, NULL, 0, w, work.len, &ready(&a)->place), &a, 8, 0);
+    says(t, "run, no work", matcher_run(FEED, LIST, NULL, 0, &ready(&a)->place), &a, 10, 0);
+    holds(t, "no slice, list", &to, list, 0, FILL);
+    holds(t, "no slice, work", &work, registers, 0, FILL);
+}
+
+/* A query in which the slices that are 0 here have no words. */
+static void null_query(struct tally *t, const char *what, const int has[5], uint32_t number, uint32_t place)
+{
+    struct answer a;
+    struct words to, work, out;
+    uint32_t *l = lend(&to, COUNT(list)), *w = lend(&work, COUNT(registers)), *r = lend(&out, COUNT(rows));
+    uint32_t found = matcher_query(has[0] ? feed : NULL, has[0] ? COUNT(feed) : 0, has[1] ? drawing : NULL, has[1] ? COUNT(drawing) : 0,
+                                   has[2] ? l : NULL, has[2] ? to.len : 0, has[3] ? w : NULL, has[3] ? work.len : 0,
+                                   has[4] ? r : NULL, has[4] ? out.len : 0, &ready(&a)->place, &a.count);
+    says(t, what, found, &a, number, place);
+    same(t, what, a.count, 0);
+}
+
+static void null_queries(struct tally *t)
+{
+    static const int no_feed[] = {0, 1, 1, 1, 1}, no_drawing[] = {1, 0, 1, 1, 1}, no_list[] = {1, 1, 0, 1, 1};
+    static const int no_work[] = {1, 1, 1, 0, 1}, no_rows[] = {1, 1, 1, 1, 0}, none[] = {0, 0, 0, 0, 0};
+    /* one class without objects, one node: no pair and no row, so nothing has to be lent for them */
+    static const uint32_t empty[] = {1, 0, 0}, node[] = {1, 0, 0, 1};
+    uint32_t load[3];
+    struct answer a;
+    null_query(t, "query, no feed", no_feed, 1, 0);
+    null_query(t, "query, no drawing", no_drawing, 5, 0);
+    null_query(t, "query, no list", no_list, 13, COUNT(list) / 3);
+    null_query(t, "query, no work", no_work, 10, 0);
+    null_query(t, "query, no rows", no_rows, 12, 0);
+    null_query(t, "query, nothing", none, 1, 0);
+    says(t, "query, accepted without work and rows",
+         matcher_query(empty, COUNT(empty), node, COUNT(node), load, COUNT(load), NULL, 0, NULL, 0, &ready(&a)->place, &a.count), &a, 0, 0);
+    same(t, "query, accepted without work and rows", a.count, 0);
+}
+
+static void null_bytes(struct tally *t)
+{
+    static const char refusal[] = "refused 14 1\n";
+    struct bytes lent;
+    uint8_t *to = lend_bytes(&lent, MOST);
+    same(t, "sheet_query, no sheet", matcher_sheet_query(NULL, 0, to, lent.len), sizeof refusal - 1);
+    holds_bytes(t, "sheet_query, no sheet, listing", &lent, refusal, sizeof refusal - 1, FILL & 0xff);
+    same(t, "sheet_query, no listing", matcher_sheet_query(SHEET, NULL, 0), 0);
+    same(t, "sheet_query, neither", matcher_sheet_query(NULL, 0, NULL, 0), 0);
+}
+
+/* ---- slices in blocks of their own that were never written: valgrind sees a use of their words, and an access beside them */
+
+static void unwritten(struct tally *t)
+{
+    const size_t words[] = {COUNT(list), COUNT(registers), COUNT(rows)};
+    uint32_t place, *lent[3];
+    size_t i, count, exact = sizeof listing - 1;
+    uint8_t *to = (uint8_t *)malloc(exact);
+    for (i = 0; i < 3; i++)
+        lent[i] = (uint32_t *)malloc(words[i] * sizeof(uint32_t));
+    if (to == NULL || lent[0] == NULL || lent[1] == NULL || lent[2] == NULL) {
+        same(t, "memory", 0, 1);
+        return;
+    }
+    same(t, "unwritten, query", matcher_query(FEED, DRAWING, lent[0], words[0], lent[1], words[1], lent[2], words[2], &place, &count), 0);
+    same(t, "unwritten, rows", count == COUNT(rows) && memcmp(lent[2], rows, sizeof rows) == 0, 1);
+    same(t, "unwritten, list", memcmp(lent[0], list, sizeof list), 0);
+    same(t, "unwritten, registers", memcmp(lent[1], registers, sizeof registers), 0);
+    same(t, "unwritten, sheet query", matcher_sheet_query(SHEET, to, exact), exact);
+    same(t, "unwritten, listing", memcmp(to, listing, exact), 0);
+    for (i = 0; i < 3; i++)
+        free(lent[i]);
+    free(to);
+}
+
+/* ---- threads: the samples that are read are the same for all, the slices that are written to are each one's own */
+
+enum { THREADS = 4 };
+
+static int most_rounds = 500;
+
+static void *rounds(void *tally)
+{
+    int i;
+    for (i = 0; i < most_rounds; i++)
+        all_calls((struct tally *)tally);
+    return NULL;
+}
+
+static void threads(struct tally *t)
+{
+    pthread_t started[THREADS];
+    struct tally own[THREADS], alone = {0, 0};
+    int i;
+    all_calls(&alone);
+    memset(own, 0, sizeof own);
+    for (i = 0; i < THREADS; i++)
+        if (pthread_create(&started[i], NULL, rounds, &own[i]) != 0) {
+            printf("thread %d does not start\n", i);
+            exit(1);
+        }
+    for (i = 0; i < THREADS; i++) {
+        pthread_join(started[i], NULL);
+        same(t, "a thread among others", own[i].passed, (size_t)most_rounds * alone.passed);
+    }
+}
+
+int main(int count, char **arguments)
+{
+    struct tally t = {0, 0};
+    if (count > 1 && strcmp(arguments[1], "--few") == 0)
+        most_rounds = 5;
+    all_calls(&t);
+    null_words(&t);
+    null_queries(&t);
+    null_bytes(&t);
+    unwritten(&t);
+    threads(&t);
+    printf("%u passed, %u failed\n", t.passed, t.failed);
+    return t.failed != 0;
+}
