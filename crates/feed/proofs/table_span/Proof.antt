@@ -58,12 +58,6 @@ inside c =
     let ok = feed-accepted _ (at .before .before .before .pre .checked) in
     rw (c .word .ensures) (ends-inside (a .feed .now) (ok .counted) (at .loop .j) (at .loop .start) (omega arith) (at .loop .inv .1))
 
-mul-start : tie.Need-mul-start Inv-loop μ-loop
-mul-start c = omega (arith, inside c)
-
-add-start-2 : tie.Need-add-start-2 Inv-loop μ-loop
-add-start-2 c = omega (arith, inside c)
-
 loop-again : tie.Need-loop-again Inv-loop μ-loop
 loop-again c =
     let at = c .before .before in
@@ -106,8 +100,8 @@ table-span-spec =
     loop-holds
     add-word
     word-requires
-    mul-start
-    add-start-2
+    (λ c. omega (arith, inside c))
+    (λ c. omega (arith, inside c))
     (λ c. omega arith)
     (λ c. omega arith)
     loop-again

@@ -16,12 +16,6 @@ abbrev μ-loop : tie.MeasureT-loop
 loop-holds : tie.Need-loop-holds Inv-loop μ-loop
 loop-holds c = clearing-start _
 
-slice-write-out : tie.Need-slice-write-out Inv-loop μ-loop
-slice-write-out c = c .loop-test .taken
-
-loop-less : tie.Need-loop-less Inv-loop μ-loop
-loop-less c = omega (arith, put-size (c .before .loop .inv .put))
-
 loop-again : tie.Need-loop-again Inv-loop μ-loop
 loop-again c = clearing-more (c .before .loop .inv) (c .loop-test .taken)
 
@@ -38,9 +32,9 @@ clear-spec =
     Inv-loop
     μ-loop
     loop-holds
-    slice-write-out
+    (λ c. c .loop-test .taken)
     (λ c. omega arith)
-    loop-less
+    (λ c. omega (arith, put-size (c .before .loop .inv .put)))
     loop-again
     same-length
     returns)

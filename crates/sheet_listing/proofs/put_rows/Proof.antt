@@ -33,9 +33,6 @@ entry-of-again c = in-loop-of-again c .before .before .before .before
 loop-holds : tie.Need-loop-holds Inv-loop μ-loop
 loop-holds c = rowing-start _ _ _ _ _
 
-row-end-requires : tie.Need-row-end-requires Inv-loop μ-loop
-row-end-requires c κs = c .before .loop .inv .upTo
-
 put-row-requires : tie.Need-put-row-requires Inv-loop μ-loop
 put-row-requires c κs =
     let e = c .before .row-end .ensures in
@@ -63,7 +60,7 @@ put-rows-spec =
     Inv-loop
     μ-loop
     loop-holds
-    row-end-requires
+    (λ c κs. c .before .loop .inv .upTo)
     put-row-requires
     loop-less
     loop-again
