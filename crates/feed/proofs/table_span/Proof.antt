@@ -1,5 +1,6 @@
 -- `feed::table_span` meets its contract. The loop's invariant: the table k is the table k - j of those from j on, which start at `start`.
 -- Assumes nothing.
+use borrow.Author.Needs.{needs}
 use mathlib.Core.Path.{_≡_, _∙_}
 use mathlib.Core.List.{[]}
 use Prim.Native.Nat.{_+_, _*_, _-_, _<_, _≤_}
@@ -44,9 +45,6 @@ loop-holds c =
     let ok = feed-accepted _ (c .before .before .pre .checked) in
     let e : a .k - 0 ≡ a .k = omega arith in
     (omega arith, rw (c .table-count .ensures) (ends-start (a .feed .now) (ok .exact)), rw (c .table-count .ensures, e, tables-from-start))
-
-add-word : tie.Need-add-word Inv-loop μ-loop
-add-word c = let ok = feed-accepted _ (entry-of-in-loop c .pre .checked) in omega arith
 
 word-requires : tie.Need-word-requires Inv-loop μ-loop
 word-requires c κs = let ok = feed-accepted _ (entry-of-in-loop c .pre .checked) in omega arith
@@ -98,7 +96,7 @@ table-span-spec =
     table-count-requires
     add-start
     loop-holds
-    add-word
+    (λ c. search needs)
     word-requires
     (λ c. omega (arith, inside c))
     (λ c. omega (arith, inside c))
