@@ -1,7 +1,8 @@
 -- `sheet_text::same_text` meets its contract. The loop's invariant: what is left of the two is the same as far as the whole is. Assumes nothing.
+use borrow.Author.Needs.{needs}
 use Prim.Native.Nat.{_+_, _-_}
 use mathlib.Core.Path.{_≡_}
-use Rattle.sheet_text.proofs.Parts.{Comparing, other-length, compare-starts, compare-ends, compare-stops, compare-goes-on}
+use Rattle.sheet_text.proofs.Parts.{Comparing, other-length, compare-ends, compare-stops, compare-goes-on}
 use native.Mathlib.Omega.{arith}
 use Rattle.sheet_text.proofs.same_text.Statement.{statement}
 use Rattle.sheet_text.proofs.same_text.Tie as tie
@@ -18,11 +19,6 @@ returns c = let s = c .before .before .before in other-length _ _ _ _ _ _ (s .pr
 
 end-is : (c : tie.Else1 Inv-loop μ-loop) → let s = c .before .before .before in s .args .q .end ≡ s .args .q .start + (s .args .p .end - s .args .p .start)
 end-is c = let s = c .before .before .before in omega (arith, s .pre .second .ordered)
-
-loop-holds : tie.Need-loop-holds Inv-loop μ-loop
-loop-holds c =
-    let s = c .before .before .before in
-    compare-starts _ _ _ _ _ _ (s .pre .first .ends) (rw (end-is c) at (s .pre .second .ends)) (s .pre .first .ordered) (omega arith) (omega arith)
 
 returns-2 : tie.Need-returns-2 Inv-loop μ-loop
 returns-2 c =
@@ -53,7 +49,7 @@ same-text-spec =
     (λ c. omega arith)
     (λ c. omega arith)
     returns
-    loop-holds
+    (λ c. search needs)
     (λ c. omega arith)
     (λ c. omega arith)
     returns-2
