@@ -72,27 +72,27 @@ fn two_tables() {
     show(&mut work, b"composition and cross", &feed, &joined, 0);
 }
 
-// Word i of a feed of two classes: the objects from 0 to 255, and as many from 256 on as `size` words take.
-fn word(i: usize, size: usize) -> u32
-    requires { ⌜ 516 ≤ size ⌝ ∗ ⌜ size ≤ 65536 ⌝ ∗ ⌜ i < size ⌝ }
+// Word i of a feed of two classes: the objects from 0 to 255, and so many from 256 on.
+fn word(i: usize, second: u32) -> u32
+    requires { ⌜ i < 65536 ⌝ }
 {
     match i {
         0 => 2,
         1 => 0,
         2 => 256,
-        3 => ((size - 516) / 2) as u32,
+        3 => second,
         _ => ((i - 4) / 2) as u32,
     }
 }
 
 // Writes that feed.
-fn fill(feed: &mut [u32])
-    requires { ⌜ 516 ≤ length (now feed) ⌝ ∗ ⌜ length (now feed) ≤ 65536 ⌝ }
+fn fill(feed: &mut [u32], second: u32)
+    requires { ⌜ length (now feed) ≤ 65536 ⌝ }
 {
     let size = feed.len();
     let mut i = 0;
     while i < size {
-        feed[i] = word(i, size);
+        feed[i] = word(i, second);
         i += 1;
     }
 }
@@ -102,10 +102,10 @@ fn crossed() {
     let list = [0u32, 0, 0, 0, 1, 0, 10, 0, 1];
     let mut work = [7u32; 132098];
     let mut accepted = [0u32; 1028];
-    fill(&mut accepted);
+    fill(&mut accepted, 256);
     show(&mut work, b"256 crossed with 256", &accepted, &list, 132092);
     let mut refused = [0u32; 1030];
-    fill(&mut refused);
+    fill(&mut refused, 257);
     show(&mut work, b"256 crossed with 257", &refused, &list, 132092);
 }
 

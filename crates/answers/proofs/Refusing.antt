@@ -1,7 +1,6 @@
 -- Refusing: an answer other than `Accepted` refuses.
 --
--- In order: that it refuses; an answer and a check after it.
--- Assumes nothing.
+-- In order: that it refuses; an answer and a check after it. Assumes nothing.
 use Prim.{tt}
 use mathlib.Core.Path.{_≡_, refl, sym}
 use mathlib.Core.Bool.{false}

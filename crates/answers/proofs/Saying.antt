@@ -1,5 +1,4 @@
--- Saying: number and place of a verdict that is known.
--- Assumes nothing.
+-- Saying: number and place of a verdict that is known. Assumes nothing.
 use Prim.Native.Nat.{ℕ}
 use mathlib.Core.Path.{_≡_, sym, ap, subst}
 use Rattle.answers.specs.Verdict.{Verdict, accepted, refused, number, location, Says}

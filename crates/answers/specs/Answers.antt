@@ -1,5 +1,4 @@
--- Answers: the number and the place of each answer of the code (document 01, Refusals).
--- Assumes nothing.
+-- Answers: the number and the place of each answer of the code (document 01, Refusals). Assumes nothing.
 use Rattle.answers.specs.Verdict.{Verdict, accepted, refused}
 use Rattle.answers.specs.declared.Answer.{Answer}
 use Rattle.answers.specs.declared.Answer.the-variants.{Accepted, FeedLength, Ceiling, Ascent, Sides, DrawingLength, Missing, Unpicked, ListLength, Invalid, Full, Large, TooMany, Short, Breach}

@@ -1,8 +1,7 @@
 -- Checks: the check of the counts, of the tables and of a whole feed, in the steps in which the code takes them.
 --
 -- In order: the counts, from one of them on; the answer for the counts; what counts that were accepted are; the tables, from one of them on;
--- classes, then labels; the first two words; the whole.
--- Assumes nothing.
+-- classes, then labels; the first two words; the whole. Assumes nothing.
 use mathlib.Core.Path.{_≡_, refl, sym, _∙_, ap}
 use mathlib.Core.Bool.{Bool, true, false}
 use mathlib.Core.List.{List, [], _∷_, _++_, map}

@@ -1,7 +1,6 @@
 -- Words: the tables of a feed, read off its words. A table of n pairs that starts at the word `at` is take n (pairsOf (drop at feed)).
 --
--- In order: the words two by two; a table by its place and its count; a span; the counts; the tables from one of them on.
--- Assumes nothing.
+-- In order: the words two by two; a table by its place and its count; a span; the counts; the tables from one of them on. Assumes nothing.
 use mathlib.Core.Path.{_≡_, refl, sym}
 use mathlib.Core.List.{List, [], _∷_}
 use Prim.Native.Nat.{ℕ, zero, suc, _+_, _*_, _-_, _<_, _≤_}

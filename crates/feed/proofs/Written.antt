@@ -1,7 +1,6 @@
 -- Written: a feed's tables, written and read again, are the same tables.
 --
--- In order: the words of tables, read two by two and cut; the parts of a feed that is written; its tables; its length.
--- Assumes nothing.
+-- In order: the words of tables, read two by two and cut; the parts of a feed that is written; its tables; its length. Assumes nothing.
 use mathlib.Core.Path.{_≡_, refl, ap, ap₂, _∙_}
 use mathlib.Core.List.{List, [], _∷_, _++_, map}
 use Prim.Native.Nat.{ℕ, _+_, _*_}

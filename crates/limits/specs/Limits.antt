@@ -1,7 +1,6 @@
 -- Limits: every ceiling of document 01, once for the definitions.
 --
--- In order: of a feed; of a drawing; of an instruction list and its registers; of a sheet; all of them.
--- Assumes nothing.
+-- In order: of a feed; of a drawing; of an instruction list and its registers; of a sheet; all of them. Assumes nothing.
 use Prim.Native.Nat.{ℕ, _+_, _*_}
 use Rattle.limits.specs.declared.Limits.{Limits}
 

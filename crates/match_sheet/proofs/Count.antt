@@ -1,5 +1,4 @@
--- Count: how many bytes were read, to a caller that has matched on it.
--- Assumes nothing.
+-- Count: how many bytes were read, to a caller that has matched on it. Assumes nothing.
 use Prim.Native.Nat.{ℕ, _≤_}
 use native.Mathlib.Omega.{arith}
 use mathlib.Core.Path.{_≡_}

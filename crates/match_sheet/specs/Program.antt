@@ -1,7 +1,6 @@
 -- Program: what the parts of the sheet program promise. No contract can say which bytes a program reads and writes.
 --
--- In order: bytes read into a slice; slices with room; the listing of an input.
--- Assumes nothing.
+-- In order: bytes read into a slice; slices with room; the listing of an input. Assumes nothing.
 use Prim.Native.Nat.{ℕ, _≤_}
 use mathlib.Core.Path.{_≡_}
 use mathlib.Core.List.{List}

@@ -1,7 +1,6 @@
 -- Calls: what the translation's and the query's call leave behind the pointers that they were given.
 --
--- In order: a translation; a query.
--- Assumes nothing.
+-- In order: a translation; a query. Assumes nothing.
 use Prim.Native.Nat.{ℕ}
 use mathlib.Core.Path.{_≡_}
 use mathlib.Core.List.{List}

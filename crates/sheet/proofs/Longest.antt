@@ -1,8 +1,7 @@
 -- Longest: how many bytes of a sheet decide its listing, and how long a listing can be.
 --
 -- In order: a sheet too long, cut; the digits of a number; a line; the picked names; the lines of rows; the objects of a row; the listing of a
--- sheet; the call, with any slice and with one in which every listing fits.
--- Assumes nothing.
+-- sheet; the call, with any slice and with one in which every listing fits. Assumes nothing.
 use Prim.Native.Nat.{ℕ, zero, suc, _+_, _*_, _/_, _%_, _^_, _<_, _≤_}
 use native.Mathlib.Omega.{arith}
 use native.Mathlib.Nat.{pow-suc, mul-suc, suc-mul}

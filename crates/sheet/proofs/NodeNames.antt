@@ -1,7 +1,6 @@
 -- NodeNames: a sheet that can be read gives at most 12 node names, of at most 12 letters.
 --
--- In order: what holds of the names; a line keeps it; all lines.
--- Assumes nothing.
+-- In order: what holds of the names; a line keeps it; all lines. Assumes nothing.
 use Prim.Native.Nat.{ℕ, zero, suc, _+_, _<_, _≤_}
 use native.Mathlib.Omega.{arith}
 use mathlib.Core.Bool.{Bool, true, false, cond, _&&_}

@@ -1,5 +1,4 @@
--- Picks: the length of a row, and words cut into rows again.
--- Assumes nothing.
+-- Picks: the length of a row, and words cut into rows again. Assumes nothing.
 use Prim.Native.Nat.{ℕ, suc, _+_, _≤_}
 use native.Mathlib.Omega.{arith}
 use mathlib.Core.Bool.{Bool, true, false, cond}

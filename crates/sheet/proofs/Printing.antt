@@ -1,7 +1,6 @@
 -- Printing: what the sheet query prints, from the answers of its parts.
 --
--- In order: a query that accepts, its picks and its rows; the question; the listing of an answer, of a refusal; a sheet.
--- Assumes nothing.
+-- In order: a query that accepts, its picks and its rows; the question; the listing of an answer, of a refusal; a sheet. Assumes nothing.
 use Prim.Native.Nat.{ℕ, _*_, _-_, _≤_}
 use native.Mathlib.Omega.{arith}
 use mathlib.Core.Bool.{true, false}

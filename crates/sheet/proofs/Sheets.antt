@@ -1,5 +1,4 @@
--- Sheets: every sheet of `Cases` has the listing stated for it, by computation.
--- Assumes nothing.
+-- Sheets: every sheet of `Cases` has the listing stated for it, by computation. Assumes nothing.
 use mathlib.Core.Path.{_≡_, refl}
 use mathlib.Core.List.{map, flatMap}
 use Rattle.tables.specs.Lists.{keep, all, any, count, below, total, placed, padded}

@@ -1,5 +1,4 @@
--- Cases: sheets as text, each with the listing that document 01 fixes for it. Its own sheet is among the starred cases.
--- Assumes nothing.
+-- Cases: sheets as text, each with the listing that document 01 fixes for it. Its own sheet is among the starred cases. Assumes nothing.
 use mathlib.Core.List.{List, [], _∷_}
 use Prim.Native.String.{String}
 

@@ -1,7 +1,6 @@
 -- SheetQuery: what the sheet query prints, and the call (document 01, 'The sheet').
 --
--- In order: the listing of a sheet; the call; the bytes that matter.
--- Assumes nothing.
+-- In order: the listing of a sheet; the call; the bytes that matter. Assumes nothing.
 use Prim.Native.Nat.{ℕ, _+_, _*_}
 use mathlib.Core.List.{List}
 use lib.ListN.{replicate}

@@ -1,7 +1,6 @@
 -- Entries: the lines of classes or labels as they stand in words, three a line.
 --
--- In order: lines behind each other; one line more; the tables with one line more.
--- Assumes nothing.
+-- In order: lines behind each other; one line more; the tables with one line more. Assumes nothing.
 use mathlib.Core.Path.{_≡_, refl, _∙_, ap}
 use mathlib.Core.List.{List, [], _∷_, _++_, append-assoc}
 use Prim.Native.Nat.{ℕ, suc, _+_, _*_, _-_, _<_}

@@ -1,7 +1,6 @@
 -- Naming: names that are numbered by first appearance.
 --
--- In order: whether a name is known; a name that fits; the names with one that fits.
--- Assumes nothing.
+-- In order: whether a name is known; a name that fits; the names with one that fits. Assumes nothing.
 use mathlib.Core.Path.{_≡_, refl, _∙_, sym}
 use mathlib.Core.Bool.{Bool, true, false, _&&_, _||_, cond}
 use mathlib.Core.List.{List, [], _∷_, _++_}

@@ -1,7 +1,6 @@
 -- Steps: a line that was read, or not, leaves a state that shows what the definition gives, and is in bounds.
 --
--- In order: bounds; a class line; a label line; a node line; an edge line; the lines that touch no values; any line.
--- Assumes nothing.
+-- In order: bounds; a class line; a label line; a node line; an edge line; the lines that touch no values; any line. Assumes nothing.
 use mathlib.Core.Path.{_≡_, refl, _∙_, sym, ap}
 use mathlib.Core.Bool.{Bool, true, false, _&&_, not}
 use mathlib.Core.List.{List, []}

@@ -1,7 +1,6 @@
 -- Tests: what a line gives, by the number of its fields and by the test that the line must pass.
 --
--- In order: the four kinds of lines; what follows where the test is passed; any line.
--- Assumes nothing.
+-- In order: the four kinds of lines; what follows where the test is passed; any line. Assumes nothing.
 use mathlib.Core.Path.{_≡_, refl}
 use mathlib.Core.Bool.{Bool, true, false, _&&_, not}
 use mathlib.Core.List.{List, [], _∷_}

@@ -1,7 +1,6 @@
 -- Reading: what has been read of a sheet, and what one line adds to it (document 01, 'The sheet').
 --
--- In order: what has been read; the four kinds of lines; any line.
--- Assumes nothing.
+-- In order: what has been read; the four kinds of lines; any line. Assumes nothing.
 use Prim.Native.Nat.{ℕ, _+_}
 use mathlib.Core.Bool.{Bool, true, false, _&&_, not, cond}
 use mathlib.Core.List.{List, [], _∷_, _++_}

@@ -26,9 +26,9 @@ ghost use Rattle.tables.specs.Order.{pair};
 ghost use Rattle.drawing.specs.Drawing.{node, edge};
 ghost use Rattle.drawing.specs.Builder.{withNode, withEdge};
 ghost use Rattle.sheet_text.specs.Text.{fields, isName, isNumber, same, known};
-ghost use Rattle.sheet_text.specs.inner.Parts.{textAt, Inside, Within, namesOf, Spans};
+ghost use Rattle.sheet_text.specs.inner.Parts.{textAt, namesOf, Sought};
 ghost use Rattle.sheet_lines.specs.Reading.{fitsTable, readClass, readLabel, readNode, readEdge, readValues, headers, readHeader, readLine};
-ghost use Rattle.sheet_lines.specs.inner.State.{putLine, lineWords, Asked, Fitting, Searchable, Ready, Held, Numbered, Lined, nodeStep, edgeStep, endStep, LineRead, ClassRead, LabelRead, OtherRead};
+ghost use Rattle.sheet_lines.specs.inner.State.{putLine, Asked, Fitting, Searchable, Ready, Numbered, Lined, nodeStep, edgeStep, endStep, LineRead, ClassRead, LabelRead, OtherRead, Linable, Tabled, Headed, ReadyIn, ReadyFor};
 
 // The words that a slice must have which holds the lines of the classes, or of the labels: three a line, and a line has at least four bytes.
 pub const LINE_WORDS: usize = 3 * (SHEET_BYTES / 4);
@@ -60,7 +60,7 @@ pub struct Step {
 
 // Whether a part of the sheet is one of the names.
 fn knows(s: &[u8], p: Span, names: Names) -> bool
-    requires { ⌜ Inside (now s) p ⌝ ∗ ⌜ Spans (now s) names mostLabels ⌝ }
+    requires { ⌜ Sought (now s) p names ⌝ }
     ensures { λ r. ⌜ r ≡ known (textAt (now (s .entry)) p) (namesOf (now (s .entry)) names) ⌝ }
 {
     find_name(s, p, names) < names.n
@@ -105,7 +105,7 @@ fn with_line(
     left: u32,
     right: u32,
 ) -> Tables
-    requires { ⌜ Fitting (now s) p (t .names) ceiling ⌝ ∗ ⌜ 3 * t .lines + 2 < length (now rows) ⌝ }
+    requires { ⌜ Linable (now s) (now rows) p t ceiling ⌝ }
     ensures { λ r. ⌜ Lined (now (s .entry)) (textAt (now (s .entry)) p) ceiling (pair left right) (now (rows .entry)) (now (rows .exit)) t r ⌝ }
 {
     let old = t.names;
@@ -123,7 +123,7 @@ fn with_line(
 
 // Whether fields make a class line.
 fn is_class(s: &[u8], f: Fields, classes: Names) -> bool
-    requires { ⌜ Within (now s) f ⌝ ∗ ⌜ Spans (now s) classes mostClasses ⌝ }
+    requires { ⌜ Tabled (now s) f classes mostClasses ⌝ }
     ensures { λ r. ⌜ r ≡ (eqb (f .count) 2 && fitsTable mostClasses (textAt (now (s .entry)) (f .first)) (namesOf (now (s .entry)) classes) && isNumber (textAt (now (s .entry)) (f .second))) ⌝ }
 {
     (f.count == 2) & fits(s, f.first, classes, CLASSES) & is_number(s, f.second)
@@ -131,7 +131,7 @@ fn is_class(s: &[u8], f: Fields, classes: Names) -> bool
 
 // A class line.
 fn class_line(rows: &mut [u32], s: &[u8], line: Span, x: State) -> Step
-    requires { ⌜ Ready (now s) line x ⌝ ∗ ⌜ lineWords ≤ length (now rows) ⌝ }
+    requires { ⌜ ReadyIn (now s) (now rows) line x ⌝ }
     ensures { λ r. ⌜ ClassRead (now (s .entry)) (now (rows .entry)) (now (rows .exit)) line x r (λ v. readClass v (fields (textAt (now (s .entry)) line))) ⌝ }
 {
     let classes = x.classes;
@@ -153,7 +153,7 @@ fn class_line(rows: &mut [u32], s: &[u8], line: Span, x: State) -> Step
 
 // Whether fields make a label line.
 fn is_label(s: &[u8], f: Fields, labels: Names) -> bool
-    requires { ⌜ Within (now s) f ⌝ ∗ ⌜ Spans (now s) labels mostLabels ⌝ }
+    requires { ⌜ Tabled (now s) f labels mostLabels ⌝ }
     ensures { λ r. ⌜ r ≡ (eqb (f .count) 3 && fitsTable mostLabels (textAt (now (s .entry)) (f .first)) (namesOf (now (s .entry)) labels) && isNumber (textAt (now (s .entry)) (f .second)) && isNumber (textAt (now (s .entry)) (f .third))) ⌝ }
 {
     (f.count == 3)
@@ -164,7 +164,7 @@ fn is_label(s: &[u8], f: Fields, labels: Names) -> bool
 
 // A label line.
 fn label_line(rows: &mut [u32], s: &[u8], line: Span, x: State) -> Step
-    requires { ⌜ Ready (now s) line x ⌝ ∗ ⌜ lineWords ≤ length (now rows) ⌝ }
+    requires { ⌜ ReadyIn (now s) (now rows) line x ⌝ }
     ensures { λ r. ⌜ LabelRead (now (s .entry)) (now (rows .entry)) (now (rows .exit)) line x r (λ v. readLabel v (fields (textAt (now (s .entry)) line))) ⌝ }
 {
     let labels = x.labels;
@@ -299,7 +299,7 @@ fn edge_line(s: &[u8], line: Span, x: State) -> Step
 
 // Whether a line is the name line of a section.
 fn is_header(s: &[u8], line: Span, section: usize) -> bool
-    requires { ⌜ Inside (now s) line ⌝ ∗ ⌜ section ≤ 3 ⌝ }
+    requires { ⌜ Headed (now s) line section ⌝ }
     ensures { λ r. ⌜ r ≡ same (textAt (now (s .entry)) line) (getD headers section []) ⌝ }
 {
     if section == 0 {
@@ -356,7 +356,7 @@ fn end_section(x: State) -> Step
 
 // A line of values, by its section.
 fn value_line(classes: &mut [u32], labels: &mut [u32], s: &[u8], line: Span, x: State) -> Step
-    requires { ⌜ Ready (now s) line x ⌝ ∗ ⌜ Held (now classes) (now labels) ⌝ }
+    requires { ⌜ ReadyFor (now s) (now classes) (now labels) line x ⌝ }
     ensures { λ r. ⌜ LineRead (now (s .entry)) (now (classes .entry)) (now (classes .exit)) (now (labels .entry)) (now (labels .exit)) line x r (λ v. readValues v (fields (textAt (now (s .entry)) line))) ⌝ }
 {
     let section = x.section;
@@ -374,7 +374,7 @@ fn value_line(classes: &mut [u32], labels: &mut [u32], s: &[u8], line: Span, x: 
 
 // Any line.
 pub fn read_line(classes: &mut [u32], labels: &mut [u32], s: &[u8], line: Span, x: State) -> Step
-    requires { ⌜ Ready (now s) line x ⌝ ∗ ⌜ Held (now classes) (now labels) ⌝ }
+    requires { ⌜ ReadyFor (now s) (now classes) (now labels) line x ⌝ }
     ensures { λ r. ⌜ LineRead (now (s .entry)) (now (classes .entry)) (now (classes .exit)) (now (labels .entry)) (now (labels .exit)) line x r (λ v. readLine v (textAt (now (s .entry)) line)) ⌝ }
 {
     if x.opened {

@@ -1,7 +1,6 @@
 -- Digits: a number's digits are those of its tenth, then its last one.
 --
--- In order: digits before others; how many are enough; a number below 10, and one of more digits.
--- Assumes nothing.
+-- In order: digits before others; how many are enough; a number below 10, and one of more digits. Assumes nothing.
 use Prim.Native.Nat.{ℕ, zero, suc, _+_, _/_, _%_, _^_, _<_, _≤_}
 use native.Mathlib.Omega.{arith}
 use native.Mathlib.Nat.{pow-suc}

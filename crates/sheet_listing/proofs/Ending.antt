@@ -1,7 +1,6 @@
 -- Ending: what a call leaves, once all of the text is written.
 --
--- In order: zeros throughout; text that fits, and text that does not.
--- Assumes nothing.
+-- In order: zeros throughout; text that fits, and text that does not. Assumes nothing.
 use Prim.Native.Nat.{ℕ, _+_, _<_, _≤_}
 use native.Mathlib.Omega.{arith}
 use native.Mathlib.Decide.{decLt}

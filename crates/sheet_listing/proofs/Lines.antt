@@ -1,7 +1,6 @@
 -- Lines: a line, field by field, and the line of a row, number by number.
 --
--- In order: what is left of a line; the line of a row; the line of a refusal.
--- Assumes nothing.
+-- In order: what is left of a line; the line of a row; the line of a refusal. Assumes nothing.
 use Prim.Native.Nat.{ℕ, _+_, _<_, _≤_}
 use native.Mathlib.Omega.{arith}
 use mathlib.Core.Path.{_≡_, refl, ap}

@@ -1,7 +1,6 @@
 -- Picked: the names of the picked nodes, node by node.
 --
--- In order: the names from a node on; the line of names, partly written.
--- Assumes nothing.
+-- In order: the names from a node on; the line of names, partly written. Assumes nothing.
 use Prim.Native.Nat.{ℕ, _+_, _<_, _≤_}
 use native.Mathlib.Omega.{arith}
 use native.Mathlib.Numerals.{add-one}

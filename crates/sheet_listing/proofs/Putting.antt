@@ -1,7 +1,6 @@
 -- Putting: text that is written from a place on, one piece behind the other.
 --
--- In order: a run of stores; nothing, one byte, one piece behind another; `Putting`, text partly written, with its laws.
--- Assumes nothing.
+-- In order: a run of stores; nothing, one byte, one piece behind another; `Putting`, text partly written, with its laws. Assumes nothing.
 use Prim.Native.Nat.{ℕ, suc, _+_, _<_, _≤_}
 use native.Mathlib.Omega.{arith}
 use native.Mathlib.Decide.{decLt}

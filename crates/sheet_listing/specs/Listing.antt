@@ -1,7 +1,6 @@
 -- Listing: what the sheet query prints (document 01, 'The sheet').
 --
--- In order: a line; the listing of rows and of a refusal; the lent slice.
--- Assumes nothing.
+-- In order: a line; the listing of rows and of a refusal; the lent slice. Assumes nothing.
 use Prim.Native.Nat.{ℕ}
 use mathlib.Core.Bool.{cond}
 use mathlib.Core.List.{List, [], _∷_, _++_, map, flatMap}

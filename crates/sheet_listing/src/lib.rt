@@ -11,13 +11,12 @@ ghost use Prim.Native.Nat.{_+_, _<_, _≤_, min};
 ghost use mathlib.Core.List.{[], _∷_, _++_, map};
 ghost use lib.ListN.{length, getD, take, replicate};
 ghost use lib.Seq.{slice};
-ghost use Rattle.limits.specs.Limits.{mostNodes};
 ghost use Rattle.answers.specs.Answers.{verdictOf};
 ghost use Rattle.drawing.specs.Builder.{view};
 ghost use Rattle.sheet_text.specs.Text.{digits};
-ghost use Rattle.sheet_text.specs.inner.Parts.{span, textAt, Inside, namesOf, Spans};
+ghost use Rattle.sheet_text.specs.inner.Parts.{span, textAt, Inside, namesOf};
 ghost use Rattle.sheet_listing.specs.Listing.{line, pickedNames, listing, refusal, listedIn, listed};
-ghost use Rattle.sheet_listing.specs.inner.Written.{Put, gap, rowsOf, rowLines, Named, Rowed, finished};
+ghost use Rattle.sheet_listing.specs.inner.Written.{Put, gap, rowsOf, rowLines, Named, Rowed, finished, NamedOne, Listable};
 
 // One byte.
 fn put_byte(out: &mut [u8], at: usize, b: u8) -> usize
@@ -67,7 +66,7 @@ fn put_gap(out: &mut [u8], at: usize, first: bool) -> usize
 
 // The name with this number, as a field.
 fn put_name(out: &mut [u8], at: usize, sheet: &[u8], names: Names, i: usize, first: bool) -> usize
-    requires { ⌜ Spans (now sheet) names mostNodes ⌝ ∗ ⌜ i < names .n ⌝ }
+    requires { ⌜ NamedOne (now sheet) names i ⌝ }
     ensures { λ r. ⌜ Put (now (out .entry)) (now (out .exit)) at (gap first ++ textAt (now (sheet .entry)) (getD (names .spans) i (span 0 0))) r ⌝ }
 {
     let p = names.spans[i];
@@ -177,7 +176,7 @@ pub fn write_listing(
     extent: usize,
     picks: usize,
 ) -> usize
-    requires { ⌜ Named (now sheet) names drawing ⌝ ∗ ⌜ Rowed (now rows) extent picks ⌝ }
+    requires { ⌜ Listable (now sheet) (now rows) names drawing extent picks ⌝ }
     ensures { λ r. ⌜ listed r (now (out .exit))
         ≡ listedIn (listing (pickedNames (namesOf (now (sheet .entry)) names) (view drawing .nodes)) (rowsOf picks (take extent (now (rows .entry))))) (now (out .entry)) ⌝ }
 {

@@ -1,7 +1,6 @@
 -- Grouping: the lines of a table among the lines of all, from a line on, and the tables from a number on.
 --
--- In order: the lines from one on; those of a table; the numbers from one on; the tables from one on.
--- Assumes nothing.
+-- In order: the lines from one on; those of a table; the numbers from one on; the tables from one on. Assumes nothing.
 use mathlib.Core.Path.{_≡_, _∙_}
 use mathlib.Core.List.{List, [], _∷_, map}
 use Prim.Native.Nat.{ℕ, suc, _+_, _*_, _-_, _<_, _≤_}

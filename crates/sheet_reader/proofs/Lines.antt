@@ -1,7 +1,6 @@
 -- Lines: the walk over all lines of a sheet. Reading the rest from here, in the state that was reached, is reading the sheet.
 --
--- In order: what an end of the walk gives; before the first line; a line that can be read; a breach; after the last line.
--- Assumes nothing.
+-- In order: what an end of the walk gives; before the first line; a line that can be read; a breach; after the last line. Assumes nothing.
 use mathlib.Core.Path.{_≡_, refl, _∙_, sym}
 use mathlib.Core.Bool.{true, false, _&&_}
 use mathlib.Core.List.{List}

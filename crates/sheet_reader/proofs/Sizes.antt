@@ -1,7 +1,6 @@
 -- Sizes: how many words the feed of some lines has. Each line is in at most one table.
 --
--- In order: the lines in all tables; the parts of a feed, and their size; the feed, part by part.
--- Assumes nothing.
+-- In order: the lines in all tables; the parts of a feed, and their size; the feed, part by part. Assumes nothing.
 use mathlib.Core.Path.{_≡_, refl, _∙_, sym, ap}
 use mathlib.Core.List.{List, [], _∷_, _++_, map, map-append, append-assoc}
 use Prim.Native.Nat.{ℕ, zero, suc, _+_, _*_, _/_, _<_, _≤_}

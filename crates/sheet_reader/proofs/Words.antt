@@ -1,7 +1,6 @@
 -- Words: what the reader leaves is what the definitions give for the sheet.
 --
--- In order: the feed; a sheet that is too long, or not; what is given.
--- Assumes nothing.
+-- In order: the feed; a sheet that is too long, or not; what is given. Assumes nothing.
 use mathlib.Core.Path.{_≡_, refl, _∙_, sym}
 use mathlib.Core.List.{List}
 use Prim.Native.Nat.{ℕ, _<_, _≤_}

@@ -1,7 +1,6 @@
 -- Sheet: what a sheet gives, or 14 with its line (document 01, 'The sheet').
 --
--- In order: all lines; the words of the feed.
--- Assumes nothing.
+-- In order: all lines; the words of the feed. Assumes nothing.
 use Prim.Native.Nat.{ℕ, _+_}
 use mathlib.Core.Bool.{_&&_, cond}
 use mathlib.Core.List.{List, [], _∷_, map}

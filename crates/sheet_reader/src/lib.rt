@@ -17,14 +17,14 @@ use tables::words::put_two;
 use tables::words::put_word;
 ghost use mathlib.Core.Path.{_≡_};
 ghost use mathlib.Core.List.{map};
-ghost use Prim.Native.Nat.{_+_, _≤_};
+ghost use Prim.Native.Nat.{_+_};
 ghost use lib.ListN.{length};
 ghost use Rattle.tables.specs.Slices.{tableWords, tablesWords};
 ghost use Rattle.tables.specs.inner.Words.{Put};
 ghost use Rattle.feed.specs.Feed.{feedWords};
 ghost use Rattle.sheet_lines.specs.inner.State.{entries, Held};
 ghost use Rattle.sheet_reader.specs.Sheet.{linesOf};
-ghost use Rattle.sheet_reader.specs.inner.Answers.{noState, Scanned, tablesIn, Lines, Writable, Feedable, Lent, Answers};
+ghost use Rattle.sheet_reader.specs.inner.Answers.{noState, Scanned, tablesIn, Lines, Writable, Feedable, Lent, Answers, TableFits};
 
 // The most words of a feed that comes from a sheet: two, the counts of all tables, and two for each line.
 pub const FEED_WORDS: usize = 2 + TABLES + 2 * (LINE_WORDS / 3);
@@ -145,7 +145,7 @@ fn put_counts(words: &mut [u32], at: usize, rows: &[u32], t: Tables) -> usize
 
 // Writes the pairs of table k, in the order of the lines.
 fn put_table(words: &mut [u32], at: usize, rows: &[u32], lines: usize, k: u32) -> usize
-    requires { ⌜ Lines (now rows) lines ⌝ ∗ ⌜ at + length (tableWords (linesOf k (entries (now rows) lines))) ≤ length (now words) ⌝ }
+    requires { ⌜ TableFits (now words) at (now rows) lines k ⌝ }
     ensures { λ r. ⌜ Put (now (words .entry)) (now (words .exit)) at (tableWords (linesOf k (entries (now (rows .entry)) lines))) r ⌝ }
 {
     let mut out = at;

@@ -1,7 +1,6 @@
 -- Parts: how a walk over a part of a byte slice finds a separator, or compares it with another.
 --
--- In order: the search for a separator; the fields that three cuts show; two parts, byte by byte.
--- Assumes nothing.
+-- In order: the search for a separator; the fields that three cuts show; two parts, byte by byte. Assumes nothing.
 use mathlib.Core.Path.{_≡_, refl, _∙_, sym, ap}
 use mathlib.Core.Bool.{Bool, true, false, _&&_}
 use mathlib.Core.List.{List, [], _∷_, _++_, append-assoc, append-nil}

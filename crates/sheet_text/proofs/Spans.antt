@@ -1,7 +1,6 @@
 -- Spans: names that are parts of a slice, by number.
 --
--- In order: how many; the search for one; no names; one name more.
--- Assumes nothing.
+-- In order: how many; the search for one; no names; one name more. Assumes nothing.
 use mathlib.Core.Path.{_≡_, refl, ap, _∙_}
 use mathlib.Core.Bool.{true, false}
 use mathlib.Core.List.{List, [], _∷_, _++_, map, map-append}

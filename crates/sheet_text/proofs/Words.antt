@@ -1,7 +1,6 @@
 -- Words: what it says that a part of a slice is a name or a number, byte by byte, and a number's value.
 --
--- In order: every byte one of some; a name; a number; its value.
--- Assumes nothing.
+-- In order: every byte one of some; a name; a number; its value. Assumes nothing.
 use mathlib.Core.Path.{_≡_, refl, _∙_, sym}
 use mathlib.Core.Bool.{Bool, true, false, _&&_}
 use mathlib.Core.List.{List, [], _∷_}

@@ -1,7 +1,6 @@
 -- Text: bytes, lines and fields, names and numbers (document 01, 'The sheet').
 --
--- In order: bytes of a quoted text; parts between separators; names; numbers, read and written; equality and look-up of names.
--- Assumes nothing.
+-- In order: bytes of a quoted text; parts between separators; names; numbers, read and written; equality and look-up of names. Assumes nothing.
 use Prim.Native.Nat.{ℕ, zero, suc, _+_, _*_, _-_, _/_, _%_}
 use Prim.Native.Char.{code}
 use Prim.Native.String.{String}

@@ -9,7 +9,7 @@ ghost use Prim.Native.Nat.{_<_};
 ghost use Rattle.limits.specs.Limits.{mostLabels};
 ghost use Rattle.tables.specs.Lists.{all};
 ghost use Rattle.sheet_text.specs.Text.{within, isName, isNumber, valueOf, same, find};
-ghost use Rattle.sheet_text.specs.inner.Parts.{span, textAt, Inside, Cut, Fielded, namesOf, noNames, withName, Spans};
+ghost use Rattle.sheet_text.specs.inner.Parts.{span, textAt, Inside, Cut, Fielded, namesOf, noNames, withName, InsideBoth, Numeral, Sought};
 
 // A part of a slice: the place where it starts, and the place after its end.
 pub struct Span {
@@ -145,7 +145,7 @@ pub fn is_number(s: &[u8], p: Span) -> bool
 
 // The value of a number.
 pub fn value_of(s: &[u8], p: Span) -> u32
-    requires { ⌜ Inside (now s) p ⌝ ∗ ⌜ isNumber (textAt (now s) p) ≡ true ⌝ }
+    requires { ⌜ Numeral (now s) p ⌝ }
     ensures { λ r. ⌜ r ≡ valueOf (textAt (now (s .entry)) p) ⌝ }
 {
     let mut n: u32 = 0;
@@ -159,7 +159,7 @@ pub fn value_of(s: &[u8], p: Span) -> u32
 
 // Whether two parts are the same text.
 pub fn same_text(s: &[u8], p: Span, t: &[u8], q: Span) -> bool
-    requires { ⌜ Inside (now s) p ⌝ ∗ ⌜ Inside (now t) q ⌝ }
+    requires { ⌜ InsideBoth (now s) p (now t) q ⌝ }
     ensures { λ r. ⌜ r ≡ same (textAt (now (s .entry)) p) (textAt (now (t .entry)) q) ⌝ }
 {
     if p.end - p.start != q.end - q.start {
@@ -179,7 +179,7 @@ pub fn same_text(s: &[u8], p: Span, t: &[u8], q: Span) -> bool
 
 // The number of a name; as many as there are where it is none of them.
 pub fn find_name(s: &[u8], p: Span, names: Names) -> usize
-    requires { ⌜ Inside (now s) p ⌝ ∗ ⌜ Spans (now s) names mostLabels ⌝ }
+    requires { ⌜ Sought (now s) p names ⌝ }
     ensures { λ r. ⌜ r ≡ find (textAt (now (s .entry)) p) (namesOf (now (s .entry)) names) ⌝ }
 {
     let n = names.n;

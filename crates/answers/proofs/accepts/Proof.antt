@@ -1,5 +1,4 @@
--- `answers::accepts` meets its contract.
--- Assumes nothing.
+-- `answers::accepts` meets its contract. Assumes nothing.
 use Rattle.answers.specs.Verdict.{isAccepted}
 use Rattle.answers.specs.Answers.{verdictOf}
 use Rattle.answers.proofs.Refusing.{refuses}

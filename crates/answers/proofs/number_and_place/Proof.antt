@@ -1,5 +1,4 @@
--- `answers::number_and_place` meets its contract, answer by answer.
--- Assumes nothing.
+-- `answers::number_and_place` meets its contract, answer by answer. Assumes nothing.
 use Rattle.answers.specs.Verdict.{number, location}
 use Rattle.answers.specs.Answers.{verdictOf}
 use borrow.Author.Needs.{needs}

@@ -72,12 +72,6 @@ summed c = sym (c .before .sum .given .1) ∙ c .before .before .before .sum-cou
 small : (c : tie.After-known-told2) → c .before .sum .given .0 .0 ≤ mostTables * mostTablePairs
 small c = sum-small _ (head (else4-of-mul-if5 c)) (summed c)
 
-mul-if5 : tie.Need-mul-if5
-mul-if5 c = omega (arith, small c)
-
-add-if5 : tie.Need-add-if5
-add-if5 c = omega (arith, small c)
-
 returns-5 : tie.Need-returns-5
 unfolding verdictOf classCount labelCount tableCount
 returns-5 c =
@@ -117,8 +111,8 @@ check-feed-spec =
     sum-counts-requires
     (λ c. search needs)
     (λ c. search needs)
-    mul-if5
-    add-if5
+    (λ c. omega (arith, small c))
+    (λ c. omega (arith, small c))
     returns-5
     check-tables-requires
     returns-6

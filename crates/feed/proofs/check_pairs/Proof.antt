@@ -1,5 +1,4 @@
--- `feed::check_pairs` meets its contract. The loop's invariant: the check from the pair j on is the check of the whole table.
--- Assumes nothing.
+-- `feed::check_pairs` meets its contract. The loop's invariant: the check from the pair j on is the check of the whole table. Assumes nothing.
 use mathlib.Core.Path.{_≡_, _∙_}
 use mathlib.Core.List.{[]}
 use Prim.Native.Nat.{_+_, _-_, _≤_}

@@ -69,12 +69,6 @@ turn c =
 returns : tie.Need-returns Inv-loop μ-loop
 returns c = stands _ _ (c .match .keys2) ∙ turn (c .before)
 
-mul-at : tie.Need-mul-at Inv-loop μ-loop
-mul-at c = omega (arith, inside (c .before .before .before))
-
-add-at-2 : tie.Need-add-at-2 Inv-loop μ-loop
-add-at-2 c = omega (arith, inside (c .before .before .before))
-
 loop-again : tie.Need-loop-again Inv-loop μ-loop
 loop-again c =
     let at = loop-of-again c in
@@ -106,8 +100,8 @@ check-tables-spec =
     check-pairs-requires
     enum-told
     returns
-    mul-at
-    add-at-2
+    (λ c. omega (arith, inside (c .before .before .before)))
+    (λ c. omega (arith, inside (c .before .before .before)))
     (λ c. omega arith)
     (λ c. omega arith)
     loop-again

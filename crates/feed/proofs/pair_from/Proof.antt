@@ -4,8 +4,5 @@ use borrow.Author.Needs.{needs}
 use Rattle.feed.proofs.pair_from.Statement.{statement}
 use Rattle.feed.proofs.pair_from.Tie as tie
 
-returns : tie.Need-returns
-returns c = refl
-
 pub pair-from-spec : {M : Type 1} → statement M
-pair-from-spec = tie.close (tie.spec (λ c. search needs) (λ c. search needs) (λ c. search needs) (λ c. search needs) (λ c. search needs) returns)
+pair-from-spec = tie.close (tie.spec (λ c. search needs) (λ c. search needs) (λ c. search needs) (λ c. search needs) (λ c. search needs) (λ c. refl))

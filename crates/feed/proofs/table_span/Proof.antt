@@ -1,5 +1,6 @@
 -- `feed::table_span` meets its contract. The loop's invariant: the table k is the table k - j of those from j on, which start at `start`.
 -- Assumes nothing.
+use borrow.Author.Needs.{needs}
 use mathlib.Core.Path.{_≡_, _∙_}
 use mathlib.Core.List.{[]}
 use Prim.Native.Nat.{_+_, _*_, _-_, _<_, _≤_}
@@ -45,9 +46,6 @@ loop-holds c =
     let e : a .k - 0 ≡ a .k = omega arith in
     (omega arith, rw (c .table-count .ensures) (ends-start (a .feed .now) (ok .exact)), rw (c .table-count .ensures, e, tables-from-start))
 
-add-word : tie.Need-add-word Inv-loop μ-loop
-add-word c = let ok = feed-accepted _ (entry-of-in-loop c .pre .checked) in omega arith
-
 word-requires : tie.Need-word-requires Inv-loop μ-loop
 word-requires c κs = let ok = feed-accepted _ (entry-of-in-loop c .pre .checked) in omega arith
 
@@ -57,12 +55,6 @@ inside c =
     let a = at .before .before .before .args in
     let ok = feed-accepted _ (at .before .before .before .pre .checked) in
     rw (c .word .ensures) (ends-inside (a .feed .now) (ok .counted) (at .loop .j) (at .loop .start) (omega arith) (at .loop .inv .1))
-
-mul-start : tie.Need-mul-start Inv-loop μ-loop
-mul-start c = omega (arith, inside c)
-
-add-start-2 : tie.Need-add-start-2 Inv-loop μ-loop
-add-start-2 c = omega (arith, inside c)
 
 loop-again : tie.Need-loop-again Inv-loop μ-loop
 loop-again c =
@@ -104,10 +96,10 @@ table-span-spec =
     table-count-requires
     add-start
     loop-holds
-    add-word
+    (λ c. search needs)
     word-requires
-    mul-start
-    add-start-2
+    (λ c. omega (arith, inside c))
+    (λ c. omega (arith, inside c))
     (λ c. omega arith)
     (λ c. omega arith)
     loop-again

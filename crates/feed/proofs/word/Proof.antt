@@ -4,8 +4,5 @@ use native.Mathlib.Omega.{arith}
 use Rattle.feed.proofs.word.Statement.{statement}
 use Rattle.feed.proofs.word.Tie as tie
 
-cast-result : tie.Need-cast-result
-cast-result c = omega (arith, c .shared-slice-known .given (c .before .args .i))
-
 pub word-spec : {M : Type 1} → statement M
-word-spec = tie.close (tie.spec (λ c. search needs) (λ c. search needs) cast-result (λ c. search needs))
+word-spec = tie.close (tie.spec (λ c. search needs) (λ c. search needs) (λ c. omega (arith, c .shared-slice-known .given (c .before .args .i))) (λ c. search needs))

@@ -1,5 +1,4 @@
--- `limits::all_limits` meets its contract: the limits of the code are those of the definitions.
--- Assumes nothing.
+-- `limits::all_limits` meets its contract: the limits of the code are those of the definitions. Assumes nothing.
 use mathlib.Core.Path.{refl}
 use Rattle.limits.specs.Limits.{allLimits}
 use Rattle.limits.proofs.all_limits.Statement.{statement}

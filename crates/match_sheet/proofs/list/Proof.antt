@@ -1,5 +1,4 @@
--- `match_sheet::list` meets its contract: every listing fits, and what follows the bytes that decide does not change it.
--- Assumes nothing.
+-- `match_sheet::list` meets its contract: every listing fits, and what follows the bytes that decide does not change it. Assumes nothing.
 use Prim.Native.Nat.{ℕ, _-_}
 use native.Mathlib.Omega.{arith}
 use mathlib.Core.Path.{_≡_, sym, ap, _∙_}

@@ -1,5 +1,4 @@
--- `match_sheet::main` is safe and ends: no more bytes are read than its array has, and no listing is longer than its second array.
--- Assumes nothing.
+-- `match_sheet::main` is safe and ends: no more bytes are read than its array has, and no listing is longer than its second array. Assumes nothing.
 use borrow.Author.Needs.{needs}
 use Rattle.match_sheet.proofs.Count.{read-within}
 use Rattle.match_sheet.proofs.main.Statement.{statement}

@@ -1,5 +1,4 @@
--- `matcher::matcher_check_feed` meets its contract.
--- Assumes nothing.
+-- `matcher::matcher_check_feed` meets its contract. Assumes nothing.
 use borrow.Author.Needs.{needs}
 use Rattle.answers.proofs.Saying.{says-same}
 use Rattle.matcher.proofs.matcher_check_feed.Statement.{statement}

@@ -1,5 +1,4 @@
--- `query_cases::print_words` is safe and ends: each turn leaves fewer words.
--- Assumes nothing.
+-- `query_cases::print_words` is safe and ends: each turn leaves fewer words. Assumes nothing.
 use Prim.Native.Nat.{_-_}
 use borrow.Author.Needs.{needs}
 use lib.ListN.{length}

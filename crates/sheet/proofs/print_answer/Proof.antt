@@ -18,7 +18,7 @@ write-listing-requires c κs =
     let a = i .before .before .before in
     let k = a .before .before in
     let ok = sym (a .ask .ensures .verdict) ∙ accepted-is _ (sym (i .before .accepts .ensures) ∙ i .if1 .taken) in
-    (k .before .before .before .pre, record { some = rw (n .count-picks .ensures) (some-pick _ _ ok); inside = a .ask .ensures .inside })
+    record { named = k .before .before .before .pre; rowed = record { some = rw (n .count-picks .ensures) (some-pick _ _ ok); inside = a .ask .ensures .inside } }
 
 returns : tie.Need-returns
 returns c =

@@ -1,5 +1,4 @@
--- Printing: what the sheet query's own question leaves.
--- Assumes nothing.
+-- Printing: what the sheet query's own question leaves. Assumes nothing.
 use Prim.Native.Nat.{ℕ, _≤_}
 use mathlib.Core.Path.{_≡_}
 use mathlib.Core.List.{List}

@@ -1,5 +1,4 @@
--- `sheet_cases::print_bytes` is safe and ends: each turn leaves fewer bytes.
--- Assumes nothing.
+-- `sheet_cases::print_bytes` is safe and ends: each turn leaves fewer bytes. Assumes nothing.
 use Prim.Native.Nat.{_-_}
 use borrow.Author.Needs.{needs}
 use lib.ListN.{length}

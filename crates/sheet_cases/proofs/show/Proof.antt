@@ -1,5 +1,4 @@
--- `sheet_cases::show` is safe and ends: a listing is no longer than the slice.
--- Assumes nothing.
+-- `sheet_cases::show` is safe and ends: a listing is no longer than the slice. Assumes nothing.
 use native.Mathlib.Omega.{arith}
 use borrow.Author.Needs.{needs}
 use Rattle.sheet.proofs.Longest.{listed-inside}

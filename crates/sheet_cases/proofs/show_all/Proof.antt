@@ -1,5 +1,4 @@
--- `sheet_cases::show_all` is safe and ends: each turn leaves fewer arguments.
--- Assumes nothing.
+-- `sheet_cases::show_all` is safe and ends: each turn leaves fewer arguments. Assumes nothing.
 use Prim.Native.Nat.{_-_}
 use borrow.Author.Needs.{needs}
 use Rattle.sheet_cases.proofs.show_all.Statement.{statement}

@@ -10,7 +10,7 @@ use Rattle.sheet_lines.proofs.class_line.Tie as tie
 value-of-requires : tie.Need-value-of-requires
 value-of-requires c κs =
     let w = c .before .before .fields-of .ensures in
-    (w .within .second, class-passed w _ (sym (c .before .is-class .ensures) ∙ c .if1 .taken) .2)
+    record { inside = w .within .second; number = class-passed w _ (sym (c .before .is-class .ensures) ∙ c .if1 .taken) .2 }
 
 with-line-requires : tie.Need-with-line-requires
 with-line-requires c κs =
@@ -18,11 +18,12 @@ with-line-requires c κs =
     let g = i .before .before in
     let w = g .fields-of .ensures in
     let s = g .before .before .before .before in
-    let f = s .pre .0 .fine in
-    let p = class-passed w _ (sym (i .before .is-class .ensures) ∙ i .if1 .taken) in (
-      record { asked = record { inside = w .within .first; spans = f .classes; few = omega arith }; fits = p .1 },
-      omega (arith, f .lines, p .0 .starts, p .0 .apart, p .0 .ends, w .within .first .ordered, w .within .second .ends, s .pre .0 .short, s .pre .1),
-    )
+    let f = s .pre .ready .fine in
+    let p = class-passed w _ (sym (i .before .is-class .ensures) ∙ i .if1 .taken) in
+    record {
+      fitting = record { asked = record { inside = w .within .first; spans = f .classes; few = omega arith }; fits = p .1 };
+      room = omega (arith, f .lines, p .0 .starts, p .0 .apart, p .0 .ends, w .within .first .ordered, w .within .second .ends, s .pre .ready .short, s .pre .room);
+    }
 
 returns : tie.Need-returns
 returns c =
@@ -30,12 +31,12 @@ returns c =
     let v = l .before .before in
     let i = v .before in
     let g = i .before .before in
-    class-read (g .before .before .before .before .pre .0) (g .fields-of .ensures) (sym (i .before .is-class .ensures) ∙ i .if1 .taken) (v .value-of .ensures) (l .with-line .ensures)
+    class-read (g .before .before .before .before .pre .ready) (g .fields-of .ensures) (sym (i .before .is-class .ensures) ∙ i .if1 .taken) (v .value-of .ensures) (l .with-line .ensures)
 
 returns-2 : tie.Need-returns-2
 returns-2 c =
     let g = c .before .before in
-    class-refused (g .before .before .before .before .pre .0) (g .fields-of .ensures) (sym (c .before .is-class .ensures) ∙ c .if1 .left)
+    class-refused (g .before .before .before .before .pre .ready) (g .fields-of .ensures) (sym (c .before .is-class .ensures) ∙ c .if1 .left)
 
 pub class-line-spec : {M : Type 1} → statement M
 class-line-spec =

@@ -28,7 +28,7 @@ cast-label c =
 find-name-requires-2 : tie.Need-find-name-requires-2
 find-name-requires-2 c κs =
     let g = c .before .before .before in
-    (g .fields-of .ensures .within .second, spans-wider (g .before .before .before .before .pre .fine .nodes) (omega arith))
+    record { inside = g .fields-of .ensures .within .second; spans = spans-wider (g .before .before .before .before .pre .fine .nodes) (omega arith) }
 
 cast-source : tie.Need-cast-source
 cast-source c =
@@ -40,7 +40,7 @@ cast-source c =
 find-name-requires-3 : tie.Need-find-name-requires-3
 find-name-requires-3 c κs =
     let g = c .before .before .before .before in
-    (g .fields-of .ensures .within .third, spans-wider (g .before .before .before .before .pre .fine .nodes) (omega arith))
+    record { inside = g .fields-of .ensures .within .third; spans = spans-wider (g .before .before .before .before .pre .fine .nodes) (omega arith) }
 
 cast-target : tie.Need-cast-target
 cast-target c =

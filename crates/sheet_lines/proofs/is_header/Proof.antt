@@ -7,29 +7,17 @@ use native.Mathlib.Omega.{arith}
 use Rattle.sheet_lines.proofs.is_header.Statement.{statement}
 use Rattle.sheet_lines.proofs.is_header.Tie as tie
 
-same-text-requires : tie.Need-same-text-requires
-same-text-requires c κs = search needs
-
 returns : tie.Need-returns
 unfolding headers bytes
 returns c = rw (c .before .before .if1 .taken) (c .same-text .ensures)
-
-same-text-requires-2 : tie.Need-same-text-requires-2
-same-text-requires-2 c κs = search needs
 
 returns-2 : tie.Need-returns-2
 unfolding headers bytes
 returns-2 c = rw (c .before .before .if2 .taken) (c .same-text2 .ensures)
 
-same-text-requires-3 : tie.Need-same-text-requires-3
-same-text-requires-3 c κs = search needs
-
 returns-3 : tie.Need-returns-3
 unfolding headers bytes
 returns-3 c = rw (c .before .before .if3 .taken) (c .same-text3 .ensures)
-
-same-text-requires-4 : tie.Need-same-text-requires-4
-same-text-requires-4 c κs = search needs
 
 returns-4 : tie.Need-returns-4
 unfolding headers bytes
@@ -43,14 +31,14 @@ is-header-spec =
     tie.close
     (tie.spec
     (λ c. search needs)
-    same-text-requires
+    (λ c κs. search needs)
     returns
     (λ c. search needs)
-    same-text-requires-2
+    (λ c κs. search needs)
     returns-2
     (λ c. search needs)
-    same-text-requires-3
+    (λ c κs. search needs)
     returns-3
     (λ c. search needs)
-    same-text-requires-4
+    (λ c κs. search needs)
     returns-4)

@@ -6,7 +6,7 @@ use Rattle.sheet_lines.proofs.knows.Statement.{statement}
 use Rattle.sheet_lines.proofs.knows.Tie as tie
 
 returns : tie.Need-returns
-returns c = rw (c .before .find-name .ensures) (known-is (c .before .before .before .pre .1) (omega arith) _)
+returns c = rw (c .before .find-name .ensures) (known-is (c .before .before .before .pre .spans) (omega arith) _)
 
 pub knows-spec : {M : Type 1} → statement M
 knows-spec = tie.close (tie.spec (λ c κs. search needs) returns)

@@ -21,7 +21,7 @@ is-node-requires c κs =
 find-name-requires : tie.Need-find-name-requires
 find-name-requires c κs =
     let g = c .before .before in
-    (g .fields-of .ensures .within .second, spans-wider (g .before .before .before .pre .fine .classes) (omega arith))
+    record { inside = g .fields-of .ensures .within .second; spans = spans-wider (g .before .before .before .pre .fine .classes) (omega arith) }
 
 cast-class : tie.Need-cast-class
 cast-class c =
@@ -34,7 +34,7 @@ value-of-requires : tie.Need-value-of-requires
 value-of-requires c κs =
     let i = c .before in
     let w = i .before .before .fields-of .ensures in
-    (w .within .third, node-passed w _ _ (sym (i .before .is-node .ensures) ∙ i .if1 .taken))
+    record { inside = w .within .third; number = node-passed w _ _ (sym (i .before .is-node .ensures) ∙ i .if1 .taken) }
 
 returns : tie.Need-returns
 returns c =

@@ -12,13 +12,13 @@ returns c =
     let l = c .before .before .before .before in
     let i = l .before .before .before in
     let o = i .before .before in
-    read-as (l .value-line .ensures) (line-of-values _ _ _ (o .if1 .taken) (i .if2 .taken) (o .before .before .before .before .pre .0 .inside .ends))
+    read-as (l .value-line .ensures) (line-of-values _ _ _ (o .if1 .taken) (i .if2 .taken) (o .before .before .before .before .pre .ready .inside .ends))
 
 returns-2 : tie.Need-returns-2
 unfolding viewOf
 returns-2 c =
     let o = c .before .before .before in
-    rw (c .end-section .ensures) (read-as (of-other _ _ (section-ended (o .before .before .before .before .pre .0))) (line-of-end _ _ _ (o .if1 .taken) (c .before .if2 .left)))
+    rw (c .end-section .ensures) (read-as (of-other _ _ (section-ended (o .before .before .before .before .pre .ready))) (line-of-end _ _ _ (o .if1 .taken) (c .before .if2 .left)))
 
 returns-3 : tie.Need-returns-3
 unfolding viewOf

@@ -25,7 +25,7 @@ unfolding viewOf
 returns-4 c =
     let i = c .before .before .before in
     let s = i .before .before .before .before in
-    let z : s .args .x .section ≡ 3 = omega (arith, s .pre .0 .fine .section) in
+    let z : s .args .x .section ≡ 3 = omega (arith, s .pre .ready .fine .section) in
     read-as (of-other _ _ (c .edge-line .ensures)) (values-of _ _ 3 z)
 
 pub value-line-spec : {M : Type 1} → statement M

@@ -11,7 +11,7 @@ cast-put-line : tie.Need-cast-put-line
 cast-put-line c =
     let found = c .before .before in
     let s = found .before .before .before .before in
-    let f = find-small (s .pre .0 .asked .spans) (s .pre .0 .asked .few) (textAt (s .args .s .now) (s .args .p)) in
+    let f = find-small (s .pre .fitting .asked .spans) (s .pre .fitting .asked .few) (textAt (s .args .s .now) (s .args .p)) in
     omega (arith, found .find-name .ensures)
 
 returns : tie.Need-returns
@@ -19,7 +19,7 @@ returns c =
     let numbered = c .before .before .before .before in
     let found = numbered .before in
     let s = found .before .before .before .before in
-    lined _ _ _ (numbered .numbered .ensures) (found .find-name .ensures) (s .pre .1) (c .before .before .put-line .ensures)
+    lined _ _ _ (numbered .numbered .ensures) (found .find-name .ensures) (s .pre .room) (c .before .before .put-line .ensures)
 
 pub with-line-spec : {M : Type 1} → statement M
 with-line-spec =

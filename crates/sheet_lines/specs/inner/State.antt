@@ -1,9 +1,8 @@
 -- State: what the reader holds of a sheet, and what it shows of it.
 --
 -- In order: the lines of the classes or labels, in words; what a state shows; what the functions are given; steps that touch no lines; what a step
--- promises.
--- Assumes nothing.
-use Prim.Native.Nat.{ℕ, _+_, _*_, _/_, _≤_}
+-- promises. Assumes nothing.
+use Prim.Native.Nat.{ℕ, _+_, _*_, _/_, _≤_, _<_}
 use mathlib.Core.Path.{_≡_}
 use mathlib.Core.Bool.{Bool, true, false}
 use mathlib.Core.List.{List, [], _∷_}
@@ -71,6 +70,16 @@ pub record Fitting (s : List ℕ) (p : Span) (names : Names) (ceiling : ℕ) : T
   pub asked : Asked s p names ceiling
   pub fits : fitsTable ceiling (textAt s p) (namesOf s names) ≡ true
 
+-- such a part, and room for a line of its table
+pub record Linable (s rows : List ℕ) (p : Span) (t : Tables) (ceiling : ℕ) : Type 0 where
+  pub fitting : Fitting s p (t .names) ceiling
+  pub room : 3 * t .lines + 2 < length rows
+
+-- fields, and the names of the tables, of which the first may be one
+pub record Tabled (s : List ℕ) (f : Fields) (x : Names) (ceiling : ℕ) : Type 0 where
+  pub within : Within s f
+  pub spans : Spans s x ceiling
+
 -- fields, and the names among which they are looked up
 pub record Searchable (s : List ℕ) (f : Fields) (x y : Names) : Type 0 where
   pub within : Within s f
@@ -96,10 +105,24 @@ pub record Ready (s : List ℕ) (line : Span) (x : State) : Type 0 where
   pub short : length s ≤ mostBytes
   pub fine : Fine s (line .start) x
 
+-- where a name line must stand
+pub record Headed (s : List ℕ) (line : Span) (section : ℕ) : Type 0 where
+  pub inside : Inside s line
+  pub known : section ≤ 3
+
 -- slices that hold the lines of the classes and of the labels
 pub record Held (classes labels : List ℕ) : Type 0 where
   pub classRoom : lineWords ≤ length classes
   pub labelRoom : lineWords ≤ length labels
+
+-- a line, and the slice that holds those of its section; the slices of both sections
+pub record ReadyIn (s rows : List ℕ) (line : Span) (x : State) : Type 0 where
+  pub ready : Ready s line x
+  pub room : lineWords ≤ length rows
+
+pub record ReadyFor (s classes labels : List ℕ) (line : Span) (x : State) : Type 0 where
+  pub ready : Ready s line x
+  pub held : Held classes labels
 
 -- ---- steps that touch no lines
 

@@ -1,9 +1,10 @@
 -- `sheet_listing::clear` meets its contract: the bytes passed are zeros. Assumes nothing.
+use borrow.Author.Needs.{needs}
 use Prim.Native.Nat.{_-_}
 use native.Mathlib.Omega.{arith}
 use lib.ListN.{length}
 use Rattle.sheet_listing.proofs.Putting.{put-size}
-use Rattle.sheet_listing.proofs.Ending.{Clearing, clearing-start, clearing-more, clearing-end}
+use Rattle.sheet_listing.proofs.Ending.{Clearing, clearing-more, clearing-end}
 use Rattle.sheet_listing.proofs.clear.Statement.{statement}
 use Rattle.sheet_listing.proofs.clear.Tie as tie
 
@@ -12,15 +13,6 @@ Inv-loop out₀ i₀ out i = Clearing out₀ out i
 
 abbrev μ-loop : tie.MeasureT-loop
 μ-loop out₀ i₀ out i = length out₀ - i
-
-loop-holds : tie.Need-loop-holds Inv-loop μ-loop
-loop-holds c = clearing-start _
-
-slice-write-out : tie.Need-slice-write-out Inv-loop μ-loop
-slice-write-out c = c .loop-test .taken
-
-loop-less : tie.Need-loop-less Inv-loop μ-loop
-loop-less c = omega (arith, put-size (c .before .loop .inv .put))
 
 loop-again : tie.Need-loop-again Inv-loop μ-loop
 loop-again c = clearing-more (c .before .loop .inv) (c .loop-test .taken)
@@ -37,10 +29,10 @@ clear-spec =
     (tie.spec
     Inv-loop
     μ-loop
-    loop-holds
-    slice-write-out
+    (λ c. search needs)
+    (λ c. c .loop-test .taken)
     (λ c. omega arith)
-    loop-less
+    (λ c. omega (arith, put-size (c .before .loop .inv .put)))
     loop-again
     same-length
     returns)

@@ -23,7 +23,7 @@ put-gap-of-returns c = put-gap-of-put-text (c .before .before)
 -- ---- end of places
 
 put-text-requires : tie.Need-put-text-requires
-put-text-requires c κs = let s = entry-of-put-text-arg c in s .pre .0 .inside (s .args .i) (s .pre .1)
+put-text-requires c κs = let s = entry-of-put-text-arg c in s .pre .spans .inside (s .args .i) (s .pre .some)
 
 returns : tie.Need-returns
 returns c = put-then (put-gap-of-returns c .put-gap .ensures) (c .before .before .put-text .ensures)

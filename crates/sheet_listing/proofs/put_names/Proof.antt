@@ -22,9 +22,6 @@ entry-of-in-loop c = c .before .before .before .before
 abbrev entry-of-after-loop : tie.After-loop Inv-loop μ-loop → tie.Start Inv-loop μ-loop
 entry-of-after-loop c = c .before .before .before .before
 
-abbrev in-loop-of-put-name-arg : tie.After-put-name-arg Inv-loop μ-loop → tie.In-loop Inv-loop μ-loop
-in-loop-of-put-name-arg c = c .before .before .before .before
-
 abbrev then1-of-again : tie.After-slice-known2 Inv-loop μ-loop → tie.Then1 Inv-loop μ-loop
 then1-of-again c = c .before .before .before .before
 
@@ -44,18 +41,6 @@ room s = roomy (s .args .t5) (s .good .1 .1 .1 .1 .0)
 
 loop-holds : tie.Need-loop-holds Inv-loop μ-loop
 loop-holds c = (naming-start _ _ _ _ _, refl)
-
-mul-v : tie.Need-mul-v Inv-loop μ-loop
-mul-v c = omega (arith, c .before .loop .inv .1, entry-of-in-loop c .pre .spans .few, entry-of-in-loop c .pre .each)
-
-element-copy-out-v : tie.Need-element-copy-out-v Inv-loop μ-loop
-element-copy-out-v c = omega (arith, c .before .loop .inv .1, entry-of-in-loop c .pre .spans .few, entry-of-in-loop c .pre .each)
-
-put-name-requires : tie.Need-put-name-requires Inv-loop μ-loop
-put-name-requires c κs =
-    let l = in-loop-of-put-name-arg c in
-    let p = entry-of-in-loop l .pre in
-    (p .spans, omega (arith, l .loop-test .taken, l .before .loop .inv .1, p .each))
 
 loop-again : tie.Need-loop-again Inv-loop μ-loop
 loop-again c =
@@ -83,10 +68,10 @@ put-names-spec =
     Inv-loop
     μ-loop
     loop-holds
-    mul-v
-    element-copy-out-v
+    (λ c. omega (arith, c .before .loop .inv .1, entry-of-in-loop c .pre .spans .few, entry-of-in-loop c .pre .each))
+    (λ c. omega (arith, c .before .loop .inv .1, entry-of-in-loop c .pre .spans .few, entry-of-in-loop c .pre .each))
     (λ c. omega arith)
-    put-name-requires
+    (λ c κs. search needs)
     (λ c. omega arith)
     loop-again
     (λ c. omega arith)

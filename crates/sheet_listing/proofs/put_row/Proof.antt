@@ -41,12 +41,6 @@ loop-of-returns c = after-loop-of-returns c .before
 loop-holds : tie.Need-loop-holds Inv-loop μ-loop
 loop-holds c = lining-start _ _ _ _ _ (c .before .before .pre .ordered)
 
-mul-put-field : tie.Need-mul-put-field Inv-loop μ-loop
-mul-put-field c = omega (arith, entry-of-put-field-arg c .good, entry-of-put-field-arg c .pre .ends)
-
-shared-slice-read-put-field : tie.Need-shared-slice-read-put-field Inv-loop μ-loop
-shared-slice-read-put-field c = omega (arith, entry-of-read-put-field c .pre .ends)
-
 loop-again : tie.Need-loop-again Inv-loop μ-loop
 loop-again c =
     let l = in-loop-of-again c in
@@ -65,8 +59,8 @@ put-row-spec =
     Inv-loop
     μ-loop
     loop-holds
-    mul-put-field
-    shared-slice-read-put-field
+    (λ c. omega (arith, entry-of-put-field-arg c .good, entry-of-put-field-arg c .pre .ends))
+    (λ c. omega (arith, entry-of-read-put-field c .pre .ends))
     (λ c κs. search needs)
     (λ c. omega arith)
     (λ c. omega arith)

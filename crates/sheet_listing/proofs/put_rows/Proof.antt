@@ -1,6 +1,6 @@
 -- `sheet_listing::put_rows` meets its contract: each turn writes the line of one row. Assumes nothing.
+use borrow.Author.Needs.{needs}
 use Prim.Native.Nat.{_-_}
-use native.Mathlib.Omega.{arith}
 use Rattle.sheet_listing.proofs.Putting.{put-size}
 use Rattle.sheet_listing.proofs.Rows.{Rowing, rowing-start, rowing-more, rowing-end}
 use Rattle.sheet_listing.proofs.put_rows.Statement.{statement}
@@ -16,33 +16,16 @@ abbrev μ-loop : tie.MeasureT-loop
 abbrev entry-of-in-loop : tie.In-loop Inv-loop μ-loop → tie.Start Inv-loop μ-loop
 entry-of-in-loop c = c .before .before .before .before
 
-abbrev entry-of-put-row-arg : tie.After-put-row-arg Inv-loop μ-loop → tie.Start Inv-loop μ-loop
-entry-of-put-row-arg c = entry-of-in-loop (c .before .before)
-
 abbrev row-end-of-again : tie.After-slice-known2 Inv-loop μ-loop → tie.After-row-end Inv-loop μ-loop
 row-end-of-again c = c .before .before .before .before
 
 abbrev in-loop-of-again : tie.After-slice-known2 Inv-loop μ-loop → tie.In-loop Inv-loop μ-loop
 in-loop-of-again c = row-end-of-again c .before
 
-abbrev entry-of-again : tie.After-slice-known2 Inv-loop μ-loop → tie.Start Inv-loop μ-loop
-entry-of-again c = in-loop-of-again c .before .before .before .before
-
 -- ---- end of places
 
 loop-holds : tie.Need-loop-holds Inv-loop μ-loop
 loop-holds c = rowing-start _ _ _ _ _
-
-row-end-requires : tie.Need-row-end-requires Inv-loop μ-loop
-row-end-requires c κs = c .before .loop .inv .upTo
-
-put-row-requires : tie.Need-put-row-requires Inv-loop μ-loop
-put-row-requires c κs =
-    let e = c .before .row-end .ensures in
-    record { ordered = omega (arith, c .before .before .loop-test .taken); ends = omega (arith, entry-of-put-row-arg c .pre .inside) }
-
-loop-less : tie.Need-loop-less Inv-loop μ-loop
-loop-less c = let e = row-end-of-again c .row-end .ensures in omega (arith, in-loop-of-again c .loop-test .taken, entry-of-again c .pre .some)
 
 loop-again : tie.Need-loop-again Inv-loop μ-loop
 loop-again c =
@@ -63,9 +46,9 @@ put-rows-spec =
     Inv-loop
     μ-loop
     loop-holds
-    row-end-requires
-    put-row-requires
-    loop-less
+    (λ c κs. c .before .loop .inv .upTo)
+    (λ c κs. search needs)
+    (λ c. search needs)
     loop-again
     same-length
     returns)

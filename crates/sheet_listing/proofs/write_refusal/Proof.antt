@@ -24,9 +24,6 @@ put-field-of-returns c = put-field2-of-returns c .before .before .before .before
 abbrev put-text-of-returns : tie.After-slice-known6 → tie.After-put-text
 put-text-of-returns c = put-field-of-returns c .before .before .before .before
 
-abbrev said-of-returns : tie.After-slice-known6 → tie.After-number-and-place
-said-of-returns c = put-text-of-returns c .before .before .before .before
-
 -- ---- end of places
 
 returns : tie.Need-returns

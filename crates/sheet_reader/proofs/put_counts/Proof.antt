@@ -47,9 +47,6 @@ loop-again c =
     let head = i .before .before in
     (putting-more (rw (tables-more _ _ _ (i .if1 .taken), n .count-lines .ensures)) (head .loop .inv .0) (p .put-word .ensures), omega arith)
 
-same-length : tie.Need-same-length Inv-loop μ-loop
-same-length c = c .before .before .loop .inv .0 .size
-
 returns : tie.Need-returns Inv-loop μ-loop
 returns c = putting-end (putting-same (ap (map length) (tables-done _ _ _ (c .if1 .left))) (c .before .before .loop .inv .0))
 
@@ -66,5 +63,5 @@ put-counts-spec =
     (λ c. omega arith)
     (λ c. omega arith)
     loop-again
-    same-length
+    (λ c. c .before .before .loop .inv .0 .size)
     returns)

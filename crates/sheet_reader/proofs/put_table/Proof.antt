@@ -19,16 +19,16 @@ abbrev μ-loop : tie.MeasureT-loop
 μ-loop words₀ at rows lines k out₀ i₀ words out i = lines - i
 
 loop-holds : tie.Need-loop-holds Inv-loop μ-loop
-loop-holds c = (putting-same (sym (ap tableWords (lines-all _ _ (c .before .before .pre .0 .inside) _))) (putting-start _ _ _), omega arith)
+loop-holds c = (putting-same (sym (ap tableWords (lines-all _ _ (c .before .before .pre .held .inside) _))) (putting-start _ _ _), omega arith)
 
 shared-slice-read-if1 : tie.Need-shared-slice-read-if1 Inv-loop μ-loop
-shared-slice-read-if1 c = let head = c .before .before in omega (arith, head .before .before .before .pre .0 .inside)
+shared-slice-read-if1 c = let head = c .before .before in omega (arith, head .before .before .before .pre .held .inside)
 
 shared-slice-read-put-two : tie.Need-shared-slice-read-put-two Inv-loop μ-loop
-shared-slice-read-put-two c = let l = c .before .before .before .before in omega (arith, l .before .before .before .before .pre .0 .inside)
+shared-slice-read-put-two c = let l = c .before .before .before .before in omega (arith, l .before .before .before .before .pre .held .inside)
 
 shared-slice-read-put-two-2 : tie.Need-shared-slice-read-put-two-2 Inv-loop μ-loop
-shared-slice-read-put-two-2 c = let i = c .before .before .before in let head = i .before .before .before in omega (arith, head .before .before .before .pre .0 .inside)
+shared-slice-read-put-two-2 c = let i = c .before .before .before in let head = i .before .before .before in omega (arith, head .before .before .before .pre .held .inside)
 
 put-two-requires : tie.Need-put-two-requires Inv-loop μ-loop
 unfolding tableWords
@@ -38,8 +38,8 @@ put-two-requires c κs =
     let head = l .before in
     let s = head .before .before .before in
     let ws = s .args .rows .now in
-    let e = lines-in ws _ (s .pre .0 .inside) _ (head .loop .i) (l .loop-test .taken) (i .if1 .taken) in
-    let r = putting-room (getD ws (3 * head .loop .i + 1) 0 ∷ getD ws (3 * head .loop .i + 2) 0 ∷ []) _ (ap tableWords e) (head .loop .inv .0) (s .pre .1) in
+    let e = lines-in ws _ (s .pre .held .inside) _ (head .loop .i) (l .loop-test .taken) (i .if1 .taken) in
+    let r = putting-room (getD ws (3 * head .loop .i + 1) 0 ∷ getD ws (3 * head .loop .i + 2) 0 ∷ []) _ (ap tableWords e) (head .loop .inv .0) (s .pre .room) in
     omega arith
 
 loop-again : tie.Need-loop-again Inv-loop μ-loop
@@ -49,22 +49,19 @@ loop-again c =
     let i = p .before .before .before .before in
     let l = i .before .before in
     let head = l .before in
-    (putting-more (ap tableWords (lines-in _ _ (head .before .before .before .pre .0 .inside) _ _ (l .loop-test .taken) (i .if1 .taken))) (head .loop .inv .0) (p .put-two .ensures), omega arith)
+    (putting-more (ap tableWords (lines-in _ _ (head .before .before .before .pre .held .inside) _ _ (l .loop-test .taken) (i .if1 .taken))) (head .loop .inv .0) (p .put-two .ensures), omega arith)
 
 loop-again-2 : tie.Need-loop-again-2 Inv-loop μ-loop
 loop-again-2 c =
     let l = c .before .before in
     let head = l .before in
-    (putting-same (ap tableWords (lines-out _ _ (head .before .before .before .pre .0 .inside) _ _ (l .loop-test .taken) (c .if1 .left))) (head .loop .inv .0), omega arith)
-
-same-length : tie.Need-same-length Inv-loop μ-loop
-same-length c = c .before .loop .inv .0 .size
+    (putting-same (ap tableWords (lines-out _ _ (head .before .before .before .pre .held .inside) _ _ (l .loop-test .taken) (c .if1 .left))) (head .loop .inv .0), omega arith)
 
 returns : tie.Need-returns Inv-loop μ-loop
 unfolding tableWords
 returns c =
     let head = c .before in
-    putting-end (putting-same (ap tableWords (lines-done _ _ (head .before .before .before .pre .0 .inside) _ _ (c .loop-test .left))) (head .loop .inv .0))
+    putting-end (putting-same (ap tableWords (lines-done _ _ (head .before .before .before .pre .held .inside) _ _ (c .loop-test .left))) (head .loop .inv .0))
 
 pub put-table-spec : {M : Type 1} → statement M
 put-table-spec =
@@ -88,5 +85,5 @@ put-table-spec =
     loop-again
     (λ c. omega arith)
     loop-again-2
-    same-length
+    (λ c. c .before .loop .inv .0 .size)
     returns)

@@ -31,7 +31,7 @@ put-table-requires c κs =
     let head = i .before .before in
     let s = head .before .before .before in
     let es = entries (s .args .rows .now) (s .args .t .lines) in
-    (s .pre .lines, putting-room (tableWords (linesOf (head .loop .k) es)) _ (ap tablesWords (tables-more es _ _ (i .if1 .taken))) (head .loop .inv .0) (s .pre .room))
+    record { held = s .pre .lines; room = putting-room (tableWords (linesOf (head .loop .k) es)) _ (ap tablesWords (tables-more es _ _ (i .if1 .taken))) (head .loop .inv .0) (s .pre .room) }
 
 loop-again : tie.Need-loop-again Inv-loop μ-loop
 unfolding tablesWords
@@ -39,9 +39,6 @@ loop-again c =
     let p = c .before .before in
     let i = p .before .before in
     (putting-more (ap tablesWords (tables-more _ _ _ (i .if1 .taken))) (i .before .before .loop .inv .0) (p .put-table .ensures), omega arith)
-
-same-length : tie.Need-same-length Inv-loop μ-loop
-same-length c = c .before .before .loop .inv .0 .size
 
 returns : tie.Need-returns Inv-loop μ-loop
 unfolding tablesWords
@@ -59,5 +56,5 @@ put-tables-spec =
     (λ c. omega arith)
     (λ c. omega arith)
     loop-again
-    same-length
+    (λ c. c .before .before .loop .inv .0 .size)
     returns)

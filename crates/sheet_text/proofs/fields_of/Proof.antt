@@ -8,28 +8,10 @@ use Rattle.sheet_text.proofs.fields_of.Tie as tie
 returns : tie.Need-returns
 returns c = one-field (c .before .before .before .pre) (c .before .cut .ensures) (c .if1 .taken)
 
-add-cut : tie.Need-add-cut
-add-cut c = omega (arith, c .before .cut .ensures .upTo)
-
-cut-requires-2 : tie.Need-cut-requires-2
-cut-requires-2 c κs = omega (arith, c .before .cut .ensures .upTo)
-
 returns-2 : tie.Need-returns-2
 returns-2 c =
     let l = c .before .before in
     two-fields (l .before .before .before .pre) (l .before .cut .ensures) (omega (arith, l .before .cut .ensures .upTo)) (c .before .cut2 .ensures) (c .if2 .taken)
-
-add-cut-2 : tie.Need-add-cut-2
-add-cut-2 c = omega (arith, c .before .before .cut .ensures .upTo)
-
-add-cut-3 : tie.Need-add-cut-3
-add-cut-3 c = omega (arith, c .before .cut2 .ensures .upTo)
-
-add-third : tie.Need-add-t14
-add-third c = omega (arith, c .before .before .cut2 .ensures .upTo)
-
-cut-requires-3 : tie.Need-cut-requires-3
-cut-requires-3 c κs = omega (arith, c .before .cut2 .ensures .upTo)
 
 returns-3 : tie.Need-returns-3
 returns-3 c =
@@ -54,12 +36,12 @@ fields-of-spec =
     (tie.spec
     (λ c κs. search needs)
     returns
-    add-cut
-    cut-requires-2
-    add-cut-2
+    (λ c. omega (arith, c .before .cut .ensures .upTo))
+    (λ c κs. omega (arith, c .before .cut .ensures .upTo))
+    (λ c. omega (arith, c .before .before .cut .ensures .upTo))
     returns-2
-    add-cut-3
-    cut-requires-3
-    add-third
+    (λ c. omega (arith, c .before .cut2 .ensures .upTo))
+    (λ c κs. omega (arith, c .before .cut2 .ensures .upTo))
+    (λ c. omega (arith, c .before .before .cut2 .ensures .upTo))
     returns-3
     returns-4)

@@ -19,21 +19,21 @@ loop-holds c = (find-starts _ _ _, refl)
 same-text-requires : tie.Need-same-text-requires Inv-loop μ-loop
 same-text-requires c κs =
     let l = c .before in
-    let i = l .before .before .before .pre .1 .inside (l .before .loop .i) (omega (arith, l .before .loop .inv .1)) in
-    (l .before .before .before .pre .0, i)
+    let i = l .before .before .before .pre .spans .inside (l .before .loop .i) (omega (arith, l .before .loop .inv .1)) in
+    record { first = l .before .before .before .pre .inside; second = i }
 
 returns : tie.Need-returns Inv-loop μ-loop
 returns c =
     let l = c .before .before .before in
-    find-stops (l .before .loop .inv .0) (l .before .before .before .pre .1) (omega (arith, l .before .loop .inv .1)) (rw (c .before .same-text .ensures) at (c .if1 .taken))
+    find-stops (l .before .loop .inv .0) (l .before .before .before .pre .spans) (omega (arith, l .before .loop .inv .1)) (rw (c .before .same-text .ensures) at (c .if1 .taken))
 
 loop-again : tie.Need-loop-again Inv-loop μ-loop
 loop-again c =
     let l = c .before .before .before in
-    (find-goes-on (l .before .loop .inv .0) (l .before .before .before .pre .1) (omega (arith, l .before .loop .inv .1)) (rw (c .before .same-text .ensures) at (c .if1 .left)), l .before .loop .inv .1)
+    (find-goes-on (l .before .loop .inv .0) (l .before .before .before .pre .spans) (omega (arith, l .before .loop .inv .1)) (rw (c .before .same-text .ensures) at (c .if1 .left)), l .before .loop .inv .1)
 
 returns-2 : tie.Need-returns-2 Inv-loop μ-loop
-returns-2 c = find-ends (c .before .loop .inv .0) (c .before .before .before .pre .1) (omega (arith, c .before .loop .inv .1))
+returns-2 c = find-ends (c .before .loop .inv .0) (c .before .before .before .pre .spans) (omega (arith, c .before .loop .inv .1))
 
 pub find-name-spec : {M : Type 1} → statement M
 find-name-spec =

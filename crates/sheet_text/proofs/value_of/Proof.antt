@@ -12,29 +12,29 @@ abbrev μ-loop : tie.MeasureT-loop
 μ-loop s p n₀ i₀ n i = p .end - i
 
 loop-holds : tie.Need-loop-holds Inv-loop μ-loop
-loop-holds c = value-starts _ _ _ (c .pre .0) (c .pre .1)
+loop-holds c = value-starts _ _ _ (c .pre .inside) (c .pre .number)
 
 mul-n : tie.Need-mul-n Inv-loop μ-loop
-mul-n c = let v = value-small (c .before .before .loop .inv) (c .before .before .before .pre .0 .ends) in omega arith
+mul-n c = let v = value-small (c .before .before .loop .inv) (c .before .before .before .pre .inside .ends) in omega arith
 
 sub-n : tie.Need-sub-n Inv-loop μ-loop
-sub-n c = let l = c .before in let d = digit (l .before .before .loop .inv) (l .before .before .before .pre .0 .ends) (l .if1 .taken) in omega (arith, d .0)
+sub-n c = let l = c .before in let d = digit (l .before .before .loop .inv) (l .before .before .before .pre .inside .ends) (l .if1 .taken) in omega (arith, d .0)
 
 cast-n : tie.Need-cast-n Inv-loop μ-loop
-cast-n c = let l = c .before in let d = digit (l .before .before .loop .inv) (l .before .before .before .pre .0 .ends) (l .if1 .taken) in omega (arith, d .1)
+cast-n c = let l = c .before in let d = digit (l .before .before .loop .inv) (l .before .before .before .pre .inside .ends) (l .if1 .taken) in omega (arith, d .1)
 
 add-n : tie.Need-add-n Inv-loop μ-loop
 add-n c =
     let l = c .before in
-    let v = value-small (l .before .before .loop .inv) (l .before .before .before .pre .0 .ends) in
-    let d = digit (l .before .before .loop .inv) (l .before .before .before .pre .0 .ends) (l .if1 .taken) in
+    let v = value-small (l .before .before .loop .inv) (l .before .before .before .pre .inside .ends) in
+    let d = digit (l .before .before .loop .inv) (l .before .before .before .pre .inside .ends) (l .if1 .taken) in
     omega (arith, d .1)
 
 loop-again : tie.Need-loop-again Inv-loop μ-loop
-loop-again c = let l = c .before in value-goes-on (l .before .before .loop .inv) (l .before .before .before .pre .0 .ends) (l .if1 .taken)
+loop-again c = let l = c .before in value-goes-on (l .before .before .loop .inv) (l .before .before .before .pre .inside .ends) (l .if1 .taken)
 
 returns : tie.Need-returns Inv-loop μ-loop
-returns c = value-ends (c .before .before .loop .inv) (c .before .before .before .pre .0 .ends) (c .if1 .left)
+returns c = value-ends (c .before .before .loop .inv) (c .before .before .before .pre .inside .ends) (c .if1 .left)
 
 pub value-of-spec : {M : Type 1} → statement M
 value-of-spec =

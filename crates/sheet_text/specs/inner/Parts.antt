@@ -4,11 +4,12 @@
 -- Assumes nothing.
 use Prim.Native.Nat.{ℕ, _+_, _≤_, _<_, min}
 use mathlib.Core.Path.{_≡_}
+use mathlib.Core.Bool.{true}
 use mathlib.Core.List.{List, [], _∷_, map}
 use lib.ListN.{length, getD, set, take, replicate}
 use lib.Seq.{slice}
 use Rattle.limits.specs.Limits.{mostLabels}
-use Rattle.sheet_text.specs.Text.{split, fields}
+use Rattle.sheet_text.specs.Text.{split, fields, isNumber}
 use Rattle.sheet_text.specs.declared.Span.{Span}
 use Rattle.sheet_text.specs.declared.Names.{Names}
 use Rattle.sheet_text.specs.declared.Fields.{Fields}
@@ -22,6 +23,16 @@ textAt s p = slice (p .start) (p .end) s
 pub record Inside (s : List ℕ) (p : Span) : Type 0 where
   pub ordered : p .start ≤ p .end
   pub ends : p .end ≤ length s
+
+-- a part of each of two slices
+pub record InsideBoth (s : List ℕ) (p : Span) (t : List ℕ) (q : Span) : Type 0 where
+  pub first : Inside s p
+  pub second : Inside t q
+
+-- a part that is a number
+pub record Numeral (s : List ℕ) (p : Span) : Type 0 where
+  pub inside : Inside s p
+  pub number : isNumber (textAt s p) ≡ true
 
 -- r is the place of the first separator of the part from a to e, or e where it has none
 pub record Cut (s : List ℕ) (a e sep r : ℕ) : Type 0 where
@@ -76,3 +87,8 @@ pub record Spans (s : List ℕ) (x : Names) (most : ℕ) : Type 0 where
   pub size : length (x .spans) ≡ mostLabels
   pub few : x .n ≤ most
   pub inside : (k : ℕ) → k < x .n → Inside s (getD (x .spans) k (span 0 0))
+
+-- a part that is looked up among names
+pub record Sought (s : List ℕ) (p : Span) (x : Names) : Type 0 where
+  pub inside : Inside s p
+  pub spans : Spans s x mostLabels
