@@ -24,6 +24,9 @@ put-field-of-returns c = put-field2-of-returns c .before .before .before .before
 abbrev put-text-of-returns : tie.After-slice-known6 → tie.After-put-text
 put-text-of-returns c = put-field-of-returns c .before .before .before .before
 
+abbrev number-and-place-of-returns : tie.After-slice-known6 → tie.After-number-and-place
+number-and-place-of-returns c = put-text-of-returns c .before .before .before .before
+
 -- ---- end of places
 
 returns : tie.Need-returns
@@ -31,7 +34,7 @@ unfolding bytes
 returns c =
     c .before .before .finish .ensures ∙
     finished-listed
-    (put-same (refusal-text _ refl (said-of-returns c .number-and-place .ensures))
+    (put-same (refusal-text _ refl (number-and-place-of-returns c .number-and-place .ensures))
     (put-then (put-then (put-then (put-text-of-returns c .put-text .ensures) (put-field-of-returns c .put-field .ensures)) (put-field2-of-returns c .put-field2 .ensures)) (put-byte-of-returns c .put-byte .ensures)))
 
 pub write-refusal-spec : {M : Type 1} → statement M
