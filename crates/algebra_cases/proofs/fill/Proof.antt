@@ -7,10 +7,10 @@ use Rattle.algebra_cases.proofs.fill.Statement.{statement}
 use Rattle.algebra_cases.proofs.fill.Tie as tie
 
 abbrev Inv-loop : tie.InvT-loop
-Inv-loop feed₀ size i₀ feed i = length feed ≡ length feed₀
+Inv-loop feed₀ second size i₀ feed i = length feed ≡ length feed₀
 
 abbrev μ-loop : tie.MeasureT-loop
-μ-loop feed₀ size i₀ feed i = size - i
+μ-loop feed₀ second size i₀ feed i = size - i
 
 loop-again : tie.Need-loop-again Inv-loop μ-loop
 loop-again c = length-set (c .before .before .loop .feed) (c .before .before .loop .i) _ ∙ c .before .before .loop .inv
