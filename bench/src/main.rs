@@ -18,6 +18,9 @@ mod cases;
 mod model;
 #[path = "../../tests/host/src/random.rs"]
 mod random;
+#[allow(dead_code)]
+#[path = "../../tests/host/src/reduction.rs"]
+mod reduction;
 
 fn main() {
     let mut arguments = std::env::args().skip(1);

@@ -14,6 +14,7 @@ mod model;
 mod queries;
 mod random;
 mod raw;
+mod reduction;
 mod refusals;
 mod runs;
 mod search;
