@@ -4,28 +4,28 @@ use crate::model;
 use crate::random::Random;
 use std::collections::BTreeSet;
 
-/// A valid feed of small tables over few objects, now and then with a high object.
+/// Which of so many labels are two-way: none, or every other one.
+pub fn marks(r: &mut Random, labels: usize) -> Vec<bool> {
+    let any = !r.one_in(3);
+    (0..labels).map(|_| any && r.one_in(2)).collect()
+}
+
+/// A valid feed of small tables over few objects, now and then with a high object, some of its labels two-way.
 pub fn feed(r: &mut Random) -> Vec<u32> {
     let (classes, labels) = (r.below(5), r.below(5));
     let objects = 1 + r.below(7);
     let object = |r: &mut Random| if r.one_in(60) { 65_535 } else { r.below(objects) as u32 };
-    let mut counts = Vec::new();
-    let mut words = Vec::new();
-    for table in 0..classes + labels {
-        let mut pairs = BTreeSet::new();
+    let pair = |r: &mut Random, is_class: bool| {
+        let u = object(r);
+        (u, if is_class { u } else { object(r) })
+    };
+    let mut table = |is_class: bool| {
         let most = if r.one_in(6) { 0 } else { 1 + r.below(10) };
-        for _ in 0..most {
-            let u = object(r);
-            let v = if table < classes { u } else { object(r) };
-            pairs.insert((u, v));
-        }
-        counts.push(pairs.len() as u32);
-        words.extend(pairs.into_iter().flat_map(|(u, v)| [u, v]));
-    }
-    let mut feed = vec![classes as u32, labels as u32];
-    feed.extend(counts);
-    feed.extend(words);
-    feed
+        (0..most).map(|_| pair(r, is_class)).collect::<model::Table>()
+    };
+    let classes: Vec<_> = (0..classes).map(|_| table(true)).collect();
+    let labels: Vec<_> = (0..labels).map(|_| table(false)).collect();
+    feed_with(&classes, &labels, &marks(r, labels.len()))
 }
 
 /// A feed with at least one class and one label, so that every drawing can be asked.
@@ -63,25 +63,29 @@ pub fn drawing(r: &mut Random, feed: &[u32], most_nodes: usize, most_edges: usiz
     words
 }
 
-/// A feed and a drawing that is found in it: each node has its object first, and the tables hold what these need, and some pairs more.
+/// A feed and a drawing that is found in it: each node has its object first, and the tables hold what these need, and some pairs more. The
+/// pair of an edge of a two-way label stands either way round.
 pub fn found(r: &mut Random, most_nodes: usize, most_edges: usize) -> (Vec<u32>, Vec<u32>) {
     let (c, l, objects) = (1 + r.below(4), 1 + r.below(4), 1 + r.below(6));
     let words = drawing(r, &[c as u32, l as u32], most_nodes, most_edges);
     let n = words[0] as usize;
     let at: Vec<u32> = (0..n).map(|_| r.below(objects) as u32).collect();
     let (mut classes, mut labels) = (vec![BTreeSet::new(); c], vec![BTreeSet::new(); l]);
+    let two_way = marks(r, l);
     for (i, node) in words[2..2 + 2 * n].chunks(2).enumerate() {
         classes[node[0] as usize].insert((at[i], at[i]));
     }
     for edge in words[2 + 2 * n..].chunks(3) {
-        labels[edge[0] as usize].insert((at[edge[1] as usize], at[edge[2] as usize]));
+        let [label, source, target] = [0, 1, 2].map(|k| edge[k] as usize);
+        let turned = two_way[label] && r.one_in(2);
+        labels[label].insert(if turned { (at[target], at[source]) } else { (at[source], at[target]) });
     }
     for _ in 0..r.below(6) {
         let (u, v) = (r.below(objects) as u32, r.below(objects) as u32);
         classes[r.below(c)].insert((u, u));
         labels[r.below(l)].insert((u, v));
     }
-    (feed_of(&classes, &labels), words)
+    (feed_with(&classes, &labels, &two_way), words)
 }
 
 /// One word changed, or a word more or less.
@@ -100,7 +104,12 @@ pub fn damage(r: &mut Random, words: &mut Vec<u32>) {
         }
         _ if !words.is_empty() => {
             let at = if r.one_in(3) { r.below(words.len().min(12)) } else { r.below(words.len()) };
-            words[at] = if r.one_in(2) { words[at].wrapping_add(1) } else { r.word() };
+            // one more; a mark put on or taken off; any word
+            words[at] = match r.below(8) {
+                0..=2 => words[at].wrapping_add(1),
+                3 => words[at] ^ model::MARK,
+                _ => r.word(),
+            };
         }
         _ => words.push(r.word()),
     }
@@ -178,10 +187,15 @@ pub fn growing_list(r: &mut Random, feed: &[u32]) -> Vec<u32> {
 
 /// The words of a feed with these tables.
 pub fn feed_of(classes: &[model::Table], labels: &[model::Table]) -> Vec<u32> {
-    let tables = || classes.iter().chain(labels);
+    feed_with(classes, labels, &vec![false; labels.len()])
+}
+
+/// The same with these marks on the labels.
+pub fn feed_with(classes: &[model::Table], labels: &[model::Table], two_way: &[bool]) -> Vec<u32> {
     let mut feed = vec![classes.len() as u32, labels.len() as u32];
-    feed.extend(tables().map(|t| t.len() as u32));
-    feed.extend(tables().flatten().flat_map(|&(u, v)| [u, v]));
+    feed.extend(classes.iter().map(|t| t.len() as u32));
+    feed.extend(labels.iter().zip(two_way).map(|(t, &marked)| t.len() as u32 + if marked { model::MARK } else { 0 }));
+    feed.extend(classes.iter().chain(labels).flatten().flat_map(|&(u, v)| [u, v]));
     feed
 }
 
@@ -211,7 +225,7 @@ pub fn large_table(r: &mut Random, shape: usize) -> model::Table {
     }
 }
 
-/// A feed of some large labels and two classes.
+/// A feed of some large labels, some of them two-way, and two classes.
 pub fn large_feed(r: &mut Random) -> Vec<u32> {
     let one = r.below(8);
     let mixed = r.one_in(2);
@@ -224,7 +238,29 @@ pub fn large_feed(r: &mut Random) -> Vec<u32> {
     // two classes, now and then such that their cross has exactly 65,536 pairs
     let mut objects = |low: usize, most: usize| if r.one_in(3) { 256 } else { low + r.below(most) } as u32;
     let counts = [objects(1, 300), objects(200, 60)];
-    feed_of(&[class(r.below(300) as u32, counts[0]), class(r.below(40) as u32, counts[1])], &labels)
+    let classes = [class(r.below(300) as u32, counts[0]), class(r.below(40) as u32, counts[1])];
+    feed_with(&classes, &labels, &marks(r, labels.len()))
+}
+
+/// A feed with one table of about 4,096 pairs, a class or a label, whose count word is at a ceiling; mostly it is the number of its pairs.
+pub fn feed_at_ceiling(r: &mut Random) -> Vec<u32> {
+    let most = 4_095 + r.below(3) as u32;
+    let is_class = r.one_in(3);
+    let step = r.below(16) as u32;
+    let large: model::Table = (0..most).map(|i| (i, if is_class { i } else { i * step })).collect();
+    let small: model::Table = [(3, 3)].into();
+    let (mut classes, mut labels) = (vec![small.clone(); r.below(3)], vec![small; r.below(3)]);
+    let tables = if is_class { &mut classes } else { &mut labels };
+    let at = r.below(tables.len() + 1);
+    tables.insert(at, large);
+    let mut feed = feed_with(&classes, &labels, &marks(r, labels.len()));
+    let word = 2 + at + if is_class { 0 } else { classes.len() };
+    feed[word] = match r.below(12) {
+        0 => [0, 4_096, 4_097, 32_767, 32_768, 36_864, 36_865, u32::MAX][r.below(8)],
+        1..=5 => most,
+        _ => most + model::MARK,
+    };
+    feed
 }
 
 /// A list over a large feed: every table is loaded, then crosses, unions and tags, then anything, mostly of the largest registers.

@@ -24,12 +24,15 @@ impl Random {
         self.below(n) == 0
     }
 
+    /// A small word, any word, or one at a ceiling: of objects, or of counts with their mark or without.
     pub fn word(&mut self) -> u32 {
-        match self.below(6) {
-            0 => self.next() as u32,
-            1 => 65_535,
-            2 => 65_536,
-            3 => u32::MAX,
+        match self.below(12) {
+            0 | 1 => self.next() as u32,
+            2 => 65_535,
+            3 | 4 => 65_536,
+            5 => u32::MAX,
+            6 => [4_096, 4_097, 32_767, 32_768, 36_864, 36_865][self.below(6)],
+            7 => 32_768 + self.below(12) as u32,
             _ => self.below(40) as u32,
         }
     }

@@ -1,0 +1,79 @@
+//! The checks of the unproved run: a feed and an instruction list.
+
+use super::key;
+
+/// What a label's count word is raised by where the label is two-way.
+const MARK: u32 = 32_768;
+
+/// Whether a table of the feed is a two-way label.
+pub fn two_way(feed: &[u32], table: usize) -> bool {
+    table >= feed[0] as usize && feed[2 + table] >= MARK
+}
+
+/// How many pairs a table of the feed has.
+pub fn size(feed: &[u32], table: usize) -> usize {
+    (feed[2 + table] - if two_way(feed, table) { MARK } else { 0 }) as usize
+}
+
+/// Refusals 1 to 4.
+pub fn check_feed(feed: &[u32]) -> (u32, u32) {
+    if feed.len() < 2 {
+        return (1, 0);
+    }
+    if feed[0] > 32 {
+        return (2, 0);
+    }
+    if feed[1] > 64 {
+        return (2, 1);
+    }
+    let (classes, head) = (feed[0] as usize, 2 + (feed[0] + feed[1]) as usize);
+    if feed.len() < head {
+        return (1, 0);
+    }
+    let tables = head - 2;
+    if let Some(k) = (0..tables).find(|&k| size(feed, k) > 4096) {
+        return (2, 2 + k as u32);
+    }
+    let pairs: usize = (0..tables).map(|k| size(feed, k)).sum();
+    if feed.len() != head + 2 * pairs {
+        return (1, 0);
+    }
+    let mut at = head;
+    for k in 0..tables {
+        let mut least = 0;
+        for pair in feed[at..at + 2 * size(feed, k)].chunks_exact(2) {
+            let place = at as u32;
+            if pair[0] > 65_535 || pair[1] > 65_535 || key(pair[0], pair[1]) < least {
+                return (3, place);
+            }
+            if k < classes && pair[0] != pair[1] {
+                return (4, place);
+            }
+            least = key(pair[0], pair[1]) + 1;
+            at += 2;
+        }
+    }
+    (0, 0)
+}
+
+/// Refusals 8 and 9.
+pub fn check_list(feed: &[u32], list: &[u32]) -> (u32, u32) {
+    if list.is_empty() || list.len() > 3 * 1024 || list.len() % 3 != 0 {
+        return (8, 0);
+    }
+    for (i, w) in list.chunks_exact(3).enumerate() {
+        let i = i as u32;
+        let valid = match w[0] {
+            0 => w[1] < feed[0] && w[2] == 0,
+            1 => w[1] < feed[1] && w[2] == 0,
+            2 | 7 | 8 | 9 | 11 | 12 | 13 => w[1] < i && w[2] == 0,
+            3 | 4 | 5 | 6 | 10 => w[1] < i && w[2] < i,
+            14 | 15 => w[1] < i,
+            _ => false,
+        };
+        if !valid {
+            return (9, i);
+        }
+    }
+    (0, 0)
+}
