@@ -47,12 +47,39 @@ impl Causes {
     }
 }
 
+/// What a feed can show of marks: four sorts of two-way labels where it is accepted, three of counts where it is refused with 2.
+const MARKS: [&str; 7] =
+    ["two-way", "without pairs", "both directions stored", "a pair (u,u)", "a marked class", "marked, over 4,096", "unmarked, over 4,096"];
+
+fn marks(feed: &[u32], verdict: model::Verdict) -> [bool; 7] {
+    let mut shown = [false; 7];
+    match verdict {
+        model::ACCEPTED => {
+            for table in model::read_feed(feed).labels.into_iter().filter(|label| label.two_way).map(|label| label.stored) {
+                shown[0] = true;
+                shown[1] |= table.is_empty();
+                shown[2] |= table.iter().any(|&(u, v)| u != v && table.contains(&(v, u)));
+                shown[3] |= table.iter().any(|&(u, v)| u == v);
+            }
+        }
+        (2, place @ 2..) => {
+            let (word, is_class) = (feed[place as usize], place < 2 + feed[0]);
+            shown[4] = is_class && (model::MARK..=model::MARK + 4_096).contains(&word);
+            shown[5] = !is_class && word > model::MARK + 4_096;
+            shown[6] = word < model::MARK;
+        }
+        _ => {}
+    }
+    shown
+}
+
 pub fn feeds(tally: &mut Tally, cases: usize) {
     let mut r = Random::new(1);
     let mut met = [0usize; 5];
+    let mut marked = [0usize; 7];
     let mut causes = Causes::default();
     for i in 0..cases {
-        let valid = cases::feed(&mut r);
+        let valid = if i % 100 == 99 { cases::feed_at_ceiling(&mut r) } else { cases::feed(&mut r) };
         let feed = match i % 3 {
             0 => valid,
             1 => {
@@ -68,9 +95,11 @@ pub fn feeds(tally: &mut Tally, cases: usize) {
         };
         let expected = model::check_feed(&feed);
         met[expected.0 as usize] += 1;
+        marks(&feed, expected).iter().zip(&mut marked).for_each(|(&shown, count)| *count += shown as usize);
         tally.same("check_feed", &said(&matcher::check_feed(&feed)), &expected, &feed);
     }
     tally.met("feeds by number", &met);
+    tally.met_by_name("feeds: labels and counts", &MARKS.map(String::from), &marked);
     causes.show(tally, "feeds", 1, 4);
 }
 

@@ -6,14 +6,14 @@ use crate::queries::ask;
 use crate::search;
 use crate::Tally;
 
-fn feed(classes: &[&[u32]], labels: &[&[(u32, u32)]]) -> Vec<u32> {
+pub fn feed(classes: &[&[u32]], labels: &[&[(u32, u32)]]) -> Vec<u32> {
     let classes: Vec<_> = classes.iter().map(|class| class.iter().map(|&u| (u, u)).collect()).collect();
     let labels: Vec<_> = labels.iter().map(|label| label.iter().copied().collect()).collect();
     cases::feed_of(&classes, &labels)
 }
 
 /// Nodes are (class, pick), edges (label, source, target).
-fn drawing(nodes: &[(u32, u32)], edges: &[(u32, u32, u32)]) -> Vec<u32> {
+pub fn drawing(nodes: &[(u32, u32)], edges: &[(u32, u32, u32)]) -> Vec<u32> {
     let mut words = vec![nodes.len() as u32, edges.len() as u32];
     words.extend(nodes.iter().flat_map(|&(class, pick)| [class, pick]));
     words.extend(edges.iter().flat_map(|&(label, source, target)| [label, source, target]));
@@ -26,7 +26,7 @@ fn exact(plan: &Result<Plan, Verdict>) -> [usize; 3] {
 }
 
 /// The query gives these rows, with exact slices and with longer ones; so do the search and the model.
-fn rows(tally: &mut Tally, name: &str, feed: &[u32], drawing: &[u32], expected: &[&[u32]]) {
+pub fn rows(tally: &mut Tally, name: &str, feed: &[u32], drawing: &[u32], expected: &[&[u32]]) {
     let words = expected.concat();
     let plan = model::plan(feed, drawing, 600_000);
     let embedded = search::rows(&model::read_feed(feed), &model::read_drawing(drawing), 1_000_000);
@@ -41,7 +41,7 @@ fn rows(tally: &mut Tally, name: &str, feed: &[u32], drawing: &[u32], expected: 
 }
 
 /// The query gives this verdict with these slices.
-fn verdict(tally: &mut Tally, name: &str, feed: &[u32], drawing: &[u32], lengths: [usize; 3], expected: Verdict) {
+pub fn verdict(tally: &mut Tally, name: &str, feed: &[u32], drawing: &[u32], lengths: [usize; 3], expected: Verdict) {
     let plan = model::plan(feed, drawing, lengths[1]);
     let answer = ask(tally, feed, drawing, &plan, lengths);
     tally.same(name, &answer.verdict, &expected, drawing);

@@ -22,6 +22,7 @@ mod sheet_cases;
 mod sheet_model;
 mod sheets;
 mod stack;
+mod two_way;
 
 use matcher::Refusal;
 use std::fmt::Debug;
@@ -59,6 +60,13 @@ impl Tally {
         self.covers(what, numbers.iter().all(|&i| counts[i] > 0));
     }
 
+    /// How often each was met, by name.
+    pub fn met_by_name(&mut self, what: &str, names: &[String], counts: &[usize]) {
+        let shown: Vec<String> = names.iter().zip(counts).map(|(name, count)| format!("{name} {count}")).collect();
+        println!("{what}: {}", shown.join(", "));
+        self.covers(what, counts.iter().all(|&count| count > 0));
+    }
+
     /// Whether the cases met what they are there for; not asked of a few.
     pub fn covers(&mut self, what: &str, met: bool) {
         if !self.few {
@@ -91,6 +99,7 @@ fn few(tally: &mut Tally) {
     examples::sources(tally);
     manual::examples(tally);
     queries::few(tally, 100);
+    two_way::all(tally, 20);
     sheets::named(tally);
     sheets::ceilings(tally);
     sheets::random(tally, 300);
@@ -118,6 +127,7 @@ fn main() {
     examples::sources(&mut tally);
     manual::all(&mut tally);
     queries::all(&mut tally, 66_000);
+    two_way::all(&mut tally, 5_000);
     sheets::named(&mut tally);
     sheets::ceilings(&mut tally);
     sheets::mutations(&mut tally);

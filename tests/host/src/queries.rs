@@ -2,7 +2,7 @@
 
 use crate::cases;
 use crate::checks::Causes;
-use crate::model::{self, Answer, Drawing, Feed, Plan, Verdict};
+use crate::model::{self, Answer, Drawing, Feed, Label, Plan, Verdict};
 use crate::random::Random;
 use crate::search;
 use crate::{said, Tally};
@@ -111,13 +111,15 @@ impl Met {
 }
 
 /// What an accepted case shows.
-fn features(feed: &Feed, drawing: &Drawing, plan: &Plan) -> [(&'static str, bool); 12] {
+fn features(feed: &Feed, drawing: &Drawing, plan: &Plan) -> [(&'static str, bool); 14] {
     let two = |test: &dyn Fn(usize, usize, usize, usize) -> bool| {
         let edges = &drawing.edges;
         (0..edges.len()).any(|i| (0..i).any(|j| test(edges[i].1, edges[i].2, edges[j].1, edges[j].2)))
     };
     let steps = plan.translation.steps;
     let picks = plan.translation.paths.len();
+    let two_way = || drawing.edges.iter().map(|edge| &feed.labels[edge.0]).filter(|label| label.two_way);
+    let both = |label: &Label| label.stored.iter().any(|&(u, v)| u != v && label.stored.contains(&(v, u)));
     [
         ("loop", steps[0] > 0),
         ("parallel edges", two(&|s, t, u, v| s != t && s == u && t == v)),
@@ -131,7 +133,15 @@ fn features(feed: &Feed, drawing: &Drawing, plan: &Plan) -> [(&'static str, bool
         ("no row", plan.rows.is_empty()),
         ("one row", plan.rows.len() == picks),
         ("several rows", plan.rows.len() > picks),
+        ("two-way edge", two_way().next().is_some()),
+        ("two-way edge, both directions stored", two_way().any(both)),
     ]
+}
+
+/// The same feed, its labels read in their direction only.
+fn one_way(feed: &Feed) -> Feed {
+    let label = |label: &Label| Label { stored: label.stored.clone(), two_way: false };
+    Feed { classes: feed.classes.clone(), labels: feed.labels.iter().map(label).collect() }
 }
 
 /// The rows of an accepted case against the search, and the search against every choice where these are few.
@@ -143,6 +153,8 @@ fn compare_rows(tally: &mut Tally, met: &mut Met, feed: &[u32], drawing: &[u32],
     }
     let Some(found) = search::rows(&f, &d, 200_000) else { return };
     met.searched += 1;
+    let backwards = search::rows(&one_way(&f), &d, 200_000).is_some_and(|rows| rows != found);
+    *met.features.entry("rows by a pair met backwards").or_default() += backwards as usize;
     let words: Vec<u32> = found.iter().flatten().copied().collect();
     tally.same("rows of the embeddings", &plan.rows, &words, &[feed, drawing].concat());
     if search::choices(&f, &d) <= 200 {
@@ -257,7 +269,7 @@ fn tiny(r: &mut Random) -> Vec<u32> {
     for _ in 0..r.below(8) {
         labels[r.below(2)].remove(&(r.below(3) as u32, r.below(3) as u32));
     }
-    cases::feed_of(&classes, &labels)
+    cases::feed_with(&classes, &labels, &cases::marks(r, 2))
 }
 
 /// A chain of 12 nodes, the two ends picked or one, edges in either direction; in every other case closed to a ring, or with edges doubled.

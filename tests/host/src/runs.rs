@@ -15,7 +15,7 @@ fn pattern(i: usize) -> u32 {
 }
 
 /// One call with a slice of so many words. `expected` gives the verdict and the words afterwards from the words before.
-fn compare(
+pub fn compare(
     tally: &mut Tally,
     what: &str,
     feed: &[u32],
@@ -34,8 +34,8 @@ fn compare(
     verdict
 }
 
-/// A call whose verdict and registers are written down here.
-fn check(tally: &mut Tally, what: &str, feed: &[u32], list: &[u32], words: usize, verdict: model::Verdict, pairs: &[(u32, u32)]) {
+/// A call whose verdict and registers are known: the slice then holds these pairs, then zeros.
+pub fn check(tally: &mut Tally, what: &str, feed: &[u32], list: &[u32], words: usize, verdict: model::Verdict, pairs: &[(u32, u32)]) {
     compare(tally, what, feed, list, words, |_| {
         let mut after: Vec<u32> = pairs.iter().flat_map(|&(u, v)| [u, v]).collect();
         after.resize(words, 0);

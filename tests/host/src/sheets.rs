@@ -60,13 +60,6 @@ impl Met {
     }
 }
 
-/// How often each was met, as `Tally::met` shows it.
-fn by_name(tally: &mut Tally, what: &str, names: &[String], counts: &[usize]) {
-    let shown: Vec<String> = names.iter().zip(counts).map(|(name, count)| format!("{name} {count}")).collect();
-    println!("{what}: {}", shown.join(", "));
-    tally.covers(what, counts.iter().all(|&count| count > 0));
-}
-
 /// A sheet with slices of four lengths: exact, one short, none, long. No listing is empty.
 fn compare(tally: &mut Tally, met: &mut Met, r: &mut Random, what: &str, sheet: &[u8]) -> Answer {
     let answer = sheet_model::answer(sheet);
@@ -312,9 +305,9 @@ pub fn random(tally: &mut Tally, cases: usize) {
         }
     }
     met.show(tally, "random sheets", &NUMBERS);
-    by_name(tally, "random sheets accepted", &["no row", "one row", "several rows"].map(String::from), &met.rows);
-    by_name(tally, "random sheets: reasons for 14", &BREACHES.map(|breach| format!("{breach:?}")), &met.breaches);
-    by_name(tally, "random sheets: damages of the bytes", &DAMAGES.map(String::from), &damages);
+    tally.met_by_name("random sheets accepted", &["no row", "one row", "several rows"].map(String::from), &met.rows);
+    tally.met_by_name("random sheets: reasons for 14", &BREACHES.map(|breach| format!("{breach:?}")), &met.breaches);
+    tally.met_by_name("random sheets: damages of the bytes", &DAMAGES.map(String::from), &damages);
     println!("random sheets: longest listing {} bytes", met.longest);
     causes.show_pairs(tally, "a sheet's 14 and a later cause", &[14], &[3, 5, 6, 7, 10, 11, 12]);
     causes.show_pairs(tally, "run or rows, and a cause before", &[10, 11, 12], &[3, 6, 7]);

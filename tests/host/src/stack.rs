@@ -69,25 +69,34 @@ fn depth(call: &mut dyn FnMut()) -> usize {
 /// A feed, and a list or a drawing.
 type Words = (Vec<u32>, Vec<u32>);
 
-/// Registers of 65,536 pairs by composition and by cross; of these the inverse, the right values, another composition, tags.
+/// 4,096 pairs whose right values descend.
+fn descending() -> Table {
+    (0..4_096).map(|i| (i, 4_095 - i)).collect()
+}
+
+/// Registers of 65,536 pairs by composition and by cross; of these the inverse, the right values, another composition, tags; and a two-way
+/// label of 4,096 pairs.
 fn large_runs() -> Vec<Words> {
     let hub: Table = (0..4_096).map(|i| (i, 7)).collect();
     let spokes: Table = (0..16).map(|i| (7, i)).collect();
-    let feed = cases::feed_of(&[cases::class(0, 256)], &[hub, spokes]);
-    let then = [2, 2, 0, 13, 2, 0, 3, 2, 2, 7, 2, 0, 8, 2, 0, 9, 2, 0];
+    let feed = cases::feed_with(&[cases::class(0, 256)], &[hub, spokes, descending()], &[false, false, true]);
+    let then = [2, 2, 0, 13, 2, 0, 3, 2, 2, 7, 2, 0, 8, 2, 0, 9, 2, 0, 1, 2, 0];
     let lists = [[1, 0, 0, 1, 1, 0, 3, 0, 1], [0, 0, 0, 0, 0, 0, 10, 0, 1]].map(|first| [&first[..], &then].concat());
     lists.map(|list| (feed.clone(), list)).into()
 }
 
-/// 65,536 rows by cross; the same by a chain whose ends come out in the other order, so that they must be sorted; 12 nodes with 24 edges.
+/// 65,536 rows by cross; the same by a chain whose ends come out in the other order, so that they must be sorted; 12 nodes with 24 edges; an edge
+/// of a two-way label of 4,096 pairs.
 fn large_queries() -> Vec<Words> {
     let spokes: Table = (0..256).map(|i| (7, i)).collect();
     let all: Table = [(0, 0), (0, 1), (1, 0), (1, 1)].into();
-    let feed = cases::feed_of(&[cases::class(0, 256), cases::class(7, 1), cases::class(0, 2)], &[spokes, all]);
+    let classes = [cases::class(0, 256), cases::class(7, 1), cases::class(0, 2)];
+    let feed = cases::feed_with(&classes, &[spokes, all, descending()], &[false, false, true]);
     let mut crowded = vec![12, 24];
     crowded.extend([2, 1].repeat(12));
     crowded.extend((0..24).flat_map(|k| [1, k % 12, (5 * k + 1) % 12]));
-    let drawings = [vec![2, 0, 0, 1, 0, 1], vec![3, 2, 0, 1, 1, 0, 0, 1, 0, 1, 2, 0, 1, 0], crowded];
+    let two_way = vec![2, 1, 0, 1, 0, 1, 2, 0, 1];
+    let drawings = [vec![2, 0, 0, 1, 0, 1], vec![3, 2, 0, 1, 1, 0, 0, 1, 0, 1, 2, 0, 1, 0], crowded, two_way];
     drawings.map(|drawing| (feed.clone(), drawing)).into()
 }
 
