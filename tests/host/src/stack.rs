@@ -71,7 +71,7 @@ type Words = (Vec<u32>, Vec<u32>);
 
 /// 4,096 pairs whose right values descend.
 fn descending() -> Table {
-    (0..4_096).map(|i| (i, 4_095 - i)).collect()
+    (0..4_096).map(|i| (i, 9_999 - i)).collect()
 }
 
 /// Registers of 65,536 pairs by composition and by cross; of these the inverse, the right values, another composition, tags; and a two-way
@@ -117,7 +117,7 @@ fn translate((feed, drawing): &Words) -> usize {
 
 /// The number of a run.
 fn run((feed, list): &Words) -> usize {
-    said(&matcher::run(feed, list, &mut vec![0; 800_000])).0 as usize
+    said(&matcher::run(feed, list, &mut vec![0; 900_000])).0 as usize
 }
 
 /// The row words of a query.
