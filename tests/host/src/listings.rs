@@ -18,7 +18,8 @@ fn objects(count: usize) -> Vec<u8> {
 
 pub fn lengths(tally: &mut Tally) {
     let mut sheets: Vec<Vec<u8>> = CASES.iter().map(|(sheet, _)| sheet.as_bytes().to_vec()).collect();
-    sheets.extend([&include_bytes!("../../../examples/bottle.sheet")[..], include_bytes!("../../../examples/tray.sheet")].map(<[u8]>::to_vec));
+    let [bottle, tray] = [&include_bytes!("../../../examples/bottle.sheet")[..], include_bytes!("../../../examples/tray.sheet")];
+    sheets.extend([bottle, tray, include_bytes!("../../../examples/touching.sheet")].map(<[u8]>::to_vec));
     sheets.push(objects(500));
     // rows, no row, a refusal
     let mut met = [0; 3];

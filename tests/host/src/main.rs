@@ -22,6 +22,7 @@ mod sheet_cases;
 mod sheet_model;
 mod sheets;
 mod stack;
+mod stars;
 mod two_way;
 
 use matcher::Refusal;
@@ -101,6 +102,7 @@ fn few(tally: &mut Tally) {
     queries::few(tally, 100);
     two_way::all(tally, 20);
     sheets::named(tally);
+    stars::named(tally);
     sheets::ceilings(tally);
     sheets::random(tally, 300);
     listings::longest(tally);
@@ -129,8 +131,10 @@ fn main() {
     queries::all(&mut tally, 66_000);
     two_way::all(&mut tally, 5_000);
     sheets::named(&mut tally);
+    stars::named(&mut tally);
     sheets::ceilings(&mut tally);
     sheets::mutations(&mut tally);
+    stars::mutations(&mut tally);
     sheets::random(&mut tally, 100_000);
     listings::lengths(&mut tally);
     listings::longest(&mut tally);

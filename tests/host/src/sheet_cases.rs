@@ -1,5 +1,7 @@
-//! Random sheets: valid ones, those whose feed or drawing is refused, and the same with damaged bytes.
+//! Random sheets: valid ones, those whose feed or drawing is refused, and the same with damaged bytes. Stars that are misplaced are in
+//! `stars.rs`.
 
+use crate::cases;
 use crate::random::Random;
 use crate::sheet_model::{MOST_BYTES, NAME_LINES};
 use std::collections::BTreeSet;
@@ -58,6 +60,8 @@ pub fn names(r: &mut Random, count: usize) -> Vec<String> {
 pub struct Plan {
     pub classes: Vec<BTreeSet<u32>>,
     pub labels: Vec<BTreeSet<(u32, u32)>>,
+    /// the labels with a star
+    pub two_way: BTreeSet<usize>,
     /// class, pick
     pub nodes: Vec<(usize, u32)>,
     /// label, source, target
@@ -84,6 +88,8 @@ fn mixed(r: &mut Random, tables: Vec<Vec<Vec<String>>>) -> Vec<Vec<String>> {
 /// The sheet that says it, with names of its own.
 pub fn written(r: &mut Random, plan: &Plan) -> Sheet {
     let (classes, labels, nodes) = (names(r, plan.classes.len()), names(r, plan.labels.len()), names(r, plan.nodes.len()));
+    let star = |(k, name): (usize, String)| if plan.two_way.contains(&k) { name + "*" } else { name };
+    let labels: Vec<String> = labels.into_iter().enumerate().map(star).collect();
     let class_lines = classes.iter().zip(&plan.classes).map(|(name, of)| of.iter().map(|u| vec![name.clone(), u.to_string()]).collect());
     let label_lines =
         labels.iter().zip(&plan.labels).map(|(name, of)| of.iter().map(|(u, v)| vec![name.clone(), u.to_string(), v.to_string()]).collect());
@@ -111,6 +117,12 @@ fn objects(r: &mut Random, most: usize) -> Vec<u32> {
     objects.into_iter().collect()
 }
 
+/// Which of so many labels have a star.
+fn two_way(r: &mut Random, labels: usize) -> BTreeSet<usize> {
+    let marks = cases::marks(r, labels);
+    (0..labels).filter(|&k| marks[k]).collect()
+}
+
 /// Tables over some objects, so many classes and labels, with nodes and edges over them.
 fn plan(r: &mut Random, objects: &[u32], [classes, labels, nodes, edges]: [usize; 4], pairs: usize) -> Plan {
     let any = |r: &mut Random| objects[r.below(objects.len())];
@@ -119,6 +131,7 @@ fn plan(r: &mut Random, objects: &[u32], [classes, labels, nodes, edges]: [usize
         labels: (0..labels).map(|_| (0..1 + r.below(pairs)).map(|_| (any(r), any(r))).collect()).collect(),
         ..Plan::default()
     };
+    plan.two_way = two_way(r, labels);
     let often = 1 + r.below(4);
     let picked = r.below(nodes);
     plan.nodes = (0..nodes).map(|k| (r.below(classes), (k == picked || r.one_in(often)) as u32)).collect();
@@ -131,7 +144,8 @@ fn plan(r: &mut Random, objects: &[u32], [classes, labels, nodes, edges]: [usize
             plan.classes[class].insert(object);
         }
         for &[label, s, t] in &plan.edges {
-            plan.labels[label].insert((at[s], at[t]));
+            let turned = plan.two_way.contains(&label) && r.one_in(2);
+            plan.labels[label].insert(if turned { (at[t], at[s]) } else { (at[s], at[t]) });
         }
     }
     plan
@@ -184,7 +198,7 @@ fn hub(r: &mut Random, pairs: usize, from: usize) -> Plan {
     let middle = r.below(65_536) as u32;
     let labels = vec![left.iter().map(|&u| (u, middle)).collect(), right.iter().map(|&v| (middle, v)).collect()];
     let classes = vec![left, [middle].into(), right];
-    Plan { classes, labels, nodes: vec![(0, 1), (1, 0), (2, 1)], edges: vec![[0, 0, 1], [1, 1, 2]] }
+    Plan { classes, labels, two_way: two_way(r, 2), nodes: vec![(0, 1), (1, 0), (2, 1)], edges: vec![[0, 0, 1], [1, 1, 2]] }
 }
 
 /// Unconnected nodes whose rows take about 4,096 words.
@@ -303,7 +317,7 @@ pub const DAMAGES: [&str; 20] = [
 ];
 
 /// Bytes that mean something, and their neighbours.
-pub const NEAR: &[u8] = b"\0\t\n\x0b\r\x1f !/0159:@AZ`abmyz{\x7f\x80\x8a\xff";
+pub const NEAR: &[u8] = b"\0\t\n\x0b\r\x1f !)**+/0159:@AZ`abmyz{\x7f\x80\x8a\xff";
 
 fn byte(r: &mut Random) -> u8 {
     if r.one_in(4) { r.next() as u8 } else { NEAR[r.below(NEAR.len())] }

@@ -1,5 +1,5 @@
 //! Document 01's sheet read a second time, in plain Rust and on its own: bytes to the words of a feed and of a drawing, or 14 with its line;
-//! then the model's query, and the listing.
+//! then the model's query, and the listing. A star behind a label's name says that the label is two-way (document 02, E1).
 
 use crate::model::{self, Verdict, ACCEPTED};
 use crate::search;
@@ -25,6 +25,8 @@ pub enum Breach {
     UnknownLabel,
     UnknownNode,
     DoubledNode,
+    /// "A label both with and without its star"
+    Star,
     ManyClasses,
     ManyLabels,
     ManyNodes,
@@ -33,18 +35,23 @@ pub enum Breach {
 
 use Breach::*;
 
-pub const BREACHES: [Breach; 16] = [
-    TooLong, Missing, Unended, Empty, NameLine, FieldCount, Name, Number, UnknownClass, UnknownLabel, UnknownNode, DoubledNode, ManyClasses,
+pub const BREACHES: [Breach; 17] = [
+    TooLong, Missing, Unended, Empty, NameLine, FieldCount, Name, Number, UnknownClass, UnknownLabel, UnknownNode, DoubledNode, Star, ManyClasses,
     ManyLabels, ManyNodes, ManyEdges,
 ];
 
-/// The names of the classes, or of the labels, by first appearance, each with the pairs of its lines.
-type Tables = Vec<(Vec<u8>, Vec<(u32, u32)>)>;
+/// A class or a label: its name, without its star; whether it has one; the pairs of its lines.
+struct Table {
+    name: Vec<u8>,
+    star: bool,
+    pairs: Vec<(u32, u32)>,
+}
 
 #[derive(Default)]
 pub struct Sheet {
-    classes: Tables,
-    labels: Tables,
+    /// both by first appearance
+    classes: Vec<Table>,
+    labels: Vec<Table>,
     /// name, number of the class, pick
     nodes: Vec<(Vec<u8>, u32, u32)>,
     /// numbers of the label, the source and the target
@@ -97,6 +104,11 @@ fn name(field: &[u8]) -> Result<&[u8], Breach> {
     if right { Ok(field) } else { Err(Name) }
 }
 
+/// A label's name: "a star follows its name on every line and in each edge that uses it", or none does.
+fn starred(field: &[u8]) -> (&[u8], bool) {
+    field.strip_suffix(b"*").map_or((field, false), |name| (name, true))
+}
+
 /// "Numbers are 1 to 5 digits without leading zeros": what a number up to 99,999 looks like when it is printed.
 fn number(field: &[u8]) -> Result<u32, Breach> {
     let value = std::str::from_utf8(field).ok().and_then(|text| text.parse::<u32>().ok()).ok_or(Number)?;
@@ -108,12 +120,13 @@ fn place<T>(all: &[T], name: impl Fn(&T) -> &[u8], field: &[u8], breach: Breach)
     all.iter().position(|one| name(one) == field).map(|k| k as u32).ok_or(breach)
 }
 
-/// A line of a class or label.
-fn add(tables: &mut Tables, name: &[u8], pair: (u32, u32), most: usize, breach: Breach) -> Result<(), Breach> {
-    match tables.iter().position(|table| table.0 == name) {
-        Some(k) => tables[k].1.push(pair),
+/// A line of a class or label; a class has no star.
+fn add(tables: &mut Vec<Table>, (name, star): (&[u8], bool), pair: (u32, u32), most: usize, breach: Breach) -> Result<(), Breach> {
+    match tables.iter().position(|table| table.name == name) {
+        Some(k) if tables[k].star != star => return Err(Star),
+        Some(k) => tables[k].pairs.push(pair),
         None if tables.len() == most => return Err(breach),
-        None => tables.push((name.to_vec(), vec![pair])),
+        None => tables.push(Table { name: name.to_vec(), star, pairs: vec![pair] }),
     }
     Ok(())
 }
@@ -124,15 +137,16 @@ impl Sheet {
         match (k, fields) {
             (0, &[class, object]) => {
                 let (class, object) = (name(class)?, number(object)?);
-                add(&mut self.classes, class, (object, object), 32, ManyClasses)
+                add(&mut self.classes, (class, false), (object, object), 32, ManyClasses)
             }
             (1, &[label, from, to]) => {
+                let (label, star) = starred(label);
                 let (label, from, to) = (name(label)?, number(from)?, number(to)?);
-                add(&mut self.labels, label, (from, to), 64, ManyLabels)
+                add(&mut self.labels, (label, star), (from, to), 64, ManyLabels)
             }
             (2, &[node, class, pick]) => {
                 let node = name(node)?;
-                let class = place(&self.classes, |c| &c.0, class, UnknownClass)?;
+                let class = place(&self.classes, |c| &c.name, class, UnknownClass)?;
                 let pick = number(pick)?;
                 if self.nodes.iter().any(|n| n.0 == node) {
                     return Err(DoubledNode);
@@ -143,18 +157,25 @@ impl Sheet {
                 self.nodes.push((node.to_vec(), class, pick));
                 Ok(())
             }
-            (3, &[label, source, target]) => {
-                let label = place(&self.labels, |l| &l.0, label, UnknownLabel)?;
-                let source = place(&self.nodes, |n| &n.0, source, UnknownNode)?;
-                let target = place(&self.nodes, |n| &n.0, target, UnknownNode)?;
-                if self.edges.len() == 24 {
-                    return Err(ManyEdges);
-                }
-                self.edges.push([label, source, target]);
-                Ok(())
-            }
+            (3, &[label, source, target]) => self.edge(label, [source, target]),
             _ => Err(FieldCount),
         }
+    }
+
+    /// A line of the last section.
+    fn edge(&mut self, label: &[u8], [source, target]: [&[u8]; 2]) -> Result<(), Breach> {
+        let (label, star) = starred(label);
+        let label = place(&self.labels, |l| &l.name, label, UnknownLabel)?;
+        if self.labels[label as usize].star != star {
+            return Err(Star);
+        }
+        let source = place(&self.nodes, |n| &n.0, source, UnknownNode)?;
+        let target = place(&self.nodes, |n| &n.0, target, UnknownNode)?;
+        if self.edges.len() == 24 {
+            return Err(ManyEdges);
+        }
+        self.edges.push([label, source, target]);
+        Ok(())
     }
 
     // ---- words
@@ -162,8 +183,8 @@ impl Sheet {
     pub fn feed(&self) -> Vec<u32> {
         let tables = || self.classes.iter().chain(&self.labels);
         let mut words = vec![self.classes.len() as u32, self.labels.len() as u32];
-        words.extend(tables().map(|table| table.1.len() as u32));
-        words.extend(tables().flat_map(|table| &table.1).flat_map(|&(u, v)| [u, v]));
+        words.extend(tables().map(|table| table.pairs.len() as u32 + if table.star { model::MARK } else { 0 }));
+        words.extend(tables().flat_map(|table| &table.pairs).flat_map(|&(u, v)| [u, v]));
         words
     }
 

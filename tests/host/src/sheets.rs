@@ -6,6 +6,7 @@ use crate::queries;
 use crate::random::Random;
 use crate::sheet_cases::{self, Plan, Sheet, CAUSES, DAMAGES, NEAR};
 use crate::sheet_model::{self, Answer, BREACHES, LENT, MOST_BYTES};
+use crate::stars::{self, STARS};
 use crate::Tally;
 
 // ---- one call
@@ -34,7 +35,7 @@ pub fn ask(tally: &mut Tally, what: &str, sheet: &[u8], text: &[u8], length: usi
 
 /// What the sheets of a test met.
 #[derive(Default)]
-struct Met {
+pub struct Met {
     numbers: [usize; 15],
     breaches: [usize; BREACHES.len()],
     /// accepted: no row, one, several
@@ -53,7 +54,7 @@ impl Met {
         }
     }
 
-    fn show(&self, tally: &mut Tally, what: &str, numbers: &[usize]) {
+    pub fn show(&self, tally: &mut Tally, what: &str, numbers: &[usize]) {
         tally.met_of(&format!("{what} by number"), &self.numbers, numbers);
         let others: Vec<usize> = (0..15).filter(|i| !numbers.contains(i) && self.numbers[*i] > 0).collect();
         tally.same(&format!("{what}: other numbers"), &others, &Vec::new(), &[]);
@@ -61,7 +62,7 @@ impl Met {
 }
 
 /// A sheet with slices of four lengths: exact, one short, none, long. No listing is empty.
-fn compare(tally: &mut Tally, met: &mut Met, r: &mut Random, what: &str, sheet: &[u8]) -> Answer {
+pub fn compare(tally: &mut Tally, met: &mut Met, r: &mut Random, what: &str, sheet: &[u8]) -> Answer {
     let answer = sheet_model::answer(sheet);
     met.note(&answer);
     let exact = answer.text.len();
@@ -75,7 +76,7 @@ fn compare(tally: &mut Tally, met: &mut Met, r: &mut Random, what: &str, sheet: 
 }
 
 /// The query over the words of a sheet that reads well, with slices as long as those that the sheet query lends itself.
-fn query(tally: &mut Tally, sheet: &[u8]) {
+pub fn query(tally: &mut Tally, sheet: &[u8]) {
     let Ok(sheet) = sheet_model::read(sheet) else { return };
     let (feed, drawing) = (sheet.feed(), sheet.drawing());
     queries::ask(tally, &feed, &drawing, &model::plan(&feed, &drawing, LENT[1]), LENT);
@@ -83,7 +84,7 @@ fn query(tally: &mut Tally, sheet: &[u8]) {
 
 // ---- cases with names
 
-const SAMPLE: &str = "class object\nregion 1\nregion 2\nregion 3\nregion 4\n\nlabel from to\ntouch 1 2\ntouch 2 3\ntouch 3 4\n\n\
+pub const SAMPLE: &str = "class object\nregion 1\nregion 2\nregion 3\nregion 4\n\nlabel from to\ntouch 1 2\ntouch 2 3\ntouch 3 4\n\n\
     node class pick\na region 1\nm region 0\nb region 1\n\nedge source target\ntouch a m\ntouch m b\n";
 
 /// Sheets with the listings that document 01 fixes for them.
@@ -179,6 +180,18 @@ fn crossed(classes: &[usize], nodes: &[usize]) -> Vec<u8> {
     sheet_cases::written(&mut Random::new(21), &plan).bytes()
 }
 
+/// A class of so many objects, a two-way label of so many pairs, none of them (u,u), and four loops at a picked node: nothing is found.
+fn looped(objects: u32, pairs: u32) -> Vec<u8> {
+    let plan = Plan {
+        classes: vec![(0..objects).collect()],
+        labels: vec![(100..100 + pairs).map(|u| (u, 9_999 - u)).collect()],
+        two_way: [0].into(),
+        nodes: vec![(0, 1)],
+        edges: vec![[0; 3]; 4],
+    };
+    sheet_cases::written(&mut Random::new(25), &plan).bytes()
+}
+
 pub struct Ceiling {
     what: &'static str,
     pub sheet: Vec<u8>,
@@ -213,6 +226,9 @@ pub fn at_ceilings() -> Vec<Ceiling> {
         // two classes of a and b objects crossed: a + b + 4ab pairs
         case("8,192 pairs", crossed(&[8, 248], &[0, 1]), ACCEPTED, 8 * 248),
         case("8,193 pairs", crossed(&[3, 630], &[0, 1]), (10, 5), 0),
+        // each load of the label gives it twice
+        case("8,192 pairs with a two-way label", looped(8, 1_023), ACCEPTED, 0),
+        case("8,193 pairs with a two-way label", looped(9, 1_023), (10, 4), 0),
         case("a register of 65,536 pairs", crossed(&[256], &[0, 0]), (10, 2), 0),
         case("a register of 65,792 pairs", crossed(&[256, 257], &[0, 1]), (11, 2), 0),
         case("4,096 words of rows", crossed(&[2, 128], &[0, 0, 0, 1]), ACCEPTED, 1_024),
@@ -233,26 +249,31 @@ pub fn ceilings(tally: &mut Tally) {
 
 // ---- the sample, damaged at every place
 
-/// A byte changed, deleted, doubled, inserted or exchanged with the next, two deleted, and the sheet cut off: each at every place.
-pub fn mutations(tally: &mut Tally) {
+/// A byte changed to each of these, deleted, doubled, inserted or exchanged with the next, two deleted, and the sheet cut off: each at every
+/// place.
+pub fn damaged(tally: &mut Tally, met: &mut Met, what: &str, sample: &[u8], bytes: &[u8]) {
     let mut r = Random::new(23);
-    let mut met = Met::default();
-    let sample = SAMPLE.as_bytes();
     for at in 0..sample.len() {
         let (before, after) = (&sample[..at], &sample[at + 1..]);
-        let mut check = |middle: &[u8]| drop(compare(tally, &mut met, &mut r, "sample", &[before, middle, after].concat()));
-        (0..=255).filter(|&byte| byte != sample[at]).for_each(|byte| check(&[byte]));
+        let mut check = |middle: &[u8]| drop(compare(tally, met, &mut r, what, &[before, middle, after].concat()));
+        bytes.iter().filter(|&&byte| byte != sample[at]).for_each(|&byte| check(&[byte]));
         check(&[]);
         check(&[sample[at]; 2]);
         NEAR.iter().for_each(|&byte| check(&[byte, sample[at]]));
         if let Some(&next) = after.first() {
             let rest = &after[1..];
             for middle in [&[next, sample[at]][..], &[]] {
-                compare(tally, &mut met, &mut r, "sample", &[before, middle, rest].concat());
+                compare(tally, met, &mut r, what, &[before, middle, rest].concat());
             }
         }
-        compare(tally, &mut met, &mut r, "sample cut off", before);
+        compare(tally, met, &mut r, &format!("{what}, cut off"), before);
     }
+}
+
+pub fn mutations(tally: &mut Tally) {
+    let mut met = Met::default();
+    let all: Vec<u8> = (0..=255).collect();
+    damaged(tally, &mut met, "sample", SAMPLE.as_bytes(), &all);
     // 5 and 7 take more than a byte
     met.show(tally, "samples with a byte damaged", &[0, 3, 6, 14]);
 }
@@ -264,40 +285,62 @@ pub fn mutations(tally: &mut Tally) {
 /// translation; 13, for every translation has room.
 const NUMBERS: [usize; 9] = [0, 3, 5, 6, 7, 10, 11, 12, 14];
 
-/// Random sheets: as they are, with one or two causes of a later refusal, with their bytes damaged once or twice, and with both.
-pub fn random(tally: &mut Tally, cases: usize) {
-    let mut r = Random::new(24);
-    let mut met = Met::default();
-    let mut causes = Causes::default();
-    let mut damages = [0; DAMAGES.len()];
-    for i in 0..cases {
-        let valid = sheet_cases::sheet(&mut r);
-        let (of_sheet, of_bytes) = [(0, 0), (0, 0), (1, 0), (2, 0), (0, 1), (0, 1), (0, 2), (1, 1)][i % 8];
+/// How many causes of a later refusal, misplaced stars and damages of the bytes a random sheet gets, in turn.
+const CHANGES: [[usize; 3]; 10] =
+    [[0, 0, 0], [0, 0, 0], [1, 0, 0], [2, 0, 0], [0, 0, 1], [0, 0, 1], [0, 0, 2], [1, 0, 1], [0, 1, 0], [1, 1, 0]];
+
+/// How often each change was made.
+struct Changes {
+    stars: [usize; STARS.len()],
+    damages: [usize; DAMAGES.len()],
+}
+
+impl Changes {
+    /// A valid sheet with so many changes of each sort; and its bytes without any change, and with each alone.
+    fn make(&mut self, r: &mut Random, valid: &Sheet, [of_sheet, of_stars, of_bytes]: [usize; 3]) -> (Vec<u8>, Vec<Vec<u8>>) {
         let mut alone = vec![valid.bytes()];
         let mut changed = valid.clone();
-        for _ in 0..of_sheet {
-            let (sort, seed) = (r.below(CAUSES), r.next());
-            sheet_cases::cause(&mut Random::new(seed), &mut changed, sort);
+        for k in 0..of_sheet + of_stars {
+            let star = k >= of_sheet;
+            let (sort, seed) = (r.below(if star { STARS.len() } else { CAUSES }), r.next());
+            let change = if star { stars::misplace } else { sheet_cases::cause };
+            self.stars[sort] += star as usize;
+            change(&mut Random::new(seed), &mut changed, sort);
             let mut one = valid.clone();
-            sheet_cases::cause(&mut Random::new(seed), &mut one, sort);
+            change(&mut Random::new(seed), &mut one, sort);
             alone.push(one.bytes());
         }
         let mut bytes = changed.bytes();
         for _ in 0..of_bytes {
             let (sort, seed) = (r.below(DAMAGES.len()), r.next());
-            damages[sort] += 1;
+            self.damages[sort] += 1;
             sheet_cases::damage(&mut Random::new(seed), &mut bytes, sort);
             let mut one = valid.bytes();
             sheet_cases::damage(&mut Random::new(seed), &mut one, sort);
             alone.push(one);
         }
+        (bytes, alone)
+    }
+}
+
+/// Random sheets: as they are, with one or two causes of a later refusal, with misplaced stars, with their bytes damaged once or twice, and
+/// with two of these.
+pub fn random(tally: &mut Tally, cases: usize) {
+    let mut r = Random::new(24);
+    let mut met = Met::default();
+    let mut causes = Causes::default();
+    let mut changes = Changes { stars: [0; STARS.len()], damages: [0; DAMAGES.len()] };
+    for i in 0..cases {
+        let valid = sheet_cases::sheet(&mut r);
+        let numbers = CHANGES[i % CHANGES.len()];
+        let (bytes, alone) = changes.make(&mut r, &valid, numbers);
         compare(tally, &mut met, &mut r, "random sheet", &bytes);
         if i % 16 == 0 {
             query(tally, &bytes);
         }
         // now and then, and for large sheets: the verdict of the sheet without any change, and with each alone
         let large = valid.sections[0].len() > 150;
-        if (large || i % 40 < 8) && of_sheet + of_bytes > 0 {
+        if (large || i % 50 < 10) && numbers != [0; 3] {
             let numbers: Vec<u32> = alone.iter().map(|bytes| sheet_model::answer(bytes).verdict.0).collect();
             for (k, &a) in numbers.iter().enumerate() {
                 numbers[..k].iter().for_each(|&b| causes.note(a.max(b), a.min(b)));
@@ -307,7 +350,8 @@ pub fn random(tally: &mut Tally, cases: usize) {
     met.show(tally, "random sheets", &NUMBERS);
     tally.met_by_name("random sheets accepted", &["no row", "one row", "several rows"].map(String::from), &met.rows);
     tally.met_by_name("random sheets: reasons for 14", &BREACHES.map(|breach| format!("{breach:?}")), &met.breaches);
-    tally.met_by_name("random sheets: damages of the bytes", &DAMAGES.map(String::from), &damages);
+    tally.met_by_name("random sheets: misplaced stars", &STARS.map(String::from), &changes.stars);
+    tally.met_by_name("random sheets: damages of the bytes", &DAMAGES.map(String::from), &changes.damages);
     println!("random sheets: longest listing {} bytes", met.longest);
     causes.show_pairs(tally, "a sheet's 14 and a later cause", &[14], &[3, 5, 6, 7, 10, 11, 12]);
     causes.show_pairs(tally, "run or rows, and a cause before", &[10, 11, 12], &[3, 6, 7]);
