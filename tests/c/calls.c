@@ -1,5 +1,5 @@
-/* Every call of matcher.h from C: the sample's answers, with words before and behind all that is written; slices of length 0 at a null
- * pointer; slices that were never written, for valgrind; and several threads at once. Compiled as C99 and as C++.
+/* Every call of matcher.h from C: the sample's answers and those of a two-way label, with words before and behind all that is written; slices
+ * of length 0 at a null pointer; slices that were never written, for valgrind; and several threads at once. Compiled as C99 and as C++.
  * The last line is 'N passed, M failed'. With `--few` the threads ask less often, for valgrind.
  */
 #include "matcher.h"
@@ -26,11 +26,27 @@ static const char sheet[] = "class object\nregion 1\nregion 2\nregion 3\nregion 
                             "node class pick\na region 1\nm region 0\nb region 1\n\nedge source target\ntouch a m\ntouch m b\n";
 static const char listing[] = "a b\n1 3\n2 4\n";
 
+/* ---- a two-way label: region 1 of the first class, region 2 of the second, and the pair (2,1), which is met from 1 to 2 as well. */
+
+static const uint32_t two_way_feed[] = {2, 1, 1, 1, 32768 + 1, 1, 1, 2, 2, 2, 1};
+static const uint32_t two_way_drawing[] = {2, 1, 0, 1, 1, 1, 0, 0, 1};
+static const uint32_t two_way_list[] = {0, 0, 0, 0, 1, 0, 1, 0, 0, 3, 0, 2, 3, 3, 1, 7, 4, 0, 8, 4, 0, 9, 4, 0};
+static const uint32_t two_way_registers[] = {
+    1, 1, 2, 2, 1, 2, 2, 1,                    /* the classes, the label in both directions */
+    1, 2, 1, 2,                                /* from the first class, to the second */
+    327680, 1, 327680, 2, 327680, 327680       /* left tag, right tag, tau */
+};
+static const uint32_t two_way_rows[] = {1, 2};
+static const char two_way_sheet[] = "class object\na 1\nb 2\n\nlabel from to\ntouch* 2 1\n\n"
+                                    "node class pick\nx a 1\ny b 1\n\nedge source target\ntouch* x y\n";
+static const char two_way_listing[] = "x y\n1 2\n";
+
 #define COUNT(words) (sizeof(words) / sizeof(words)[0])
 #define FEED feed, COUNT(feed)
 #define DRAWING drawing, COUNT(drawing)
 #define LIST list, COUNT(list)
 #define SHEET (const uint8_t *)sheet, sizeof sheet - 1
+#define TWO_WAY two_way_feed, COUNT(two_way_feed), two_way_drawing, COUNT(two_way_drawing)
 
 /* ---- comparing */
 
@@ -218,6 +234,38 @@ static void sheets(struct tally *t)
     holds_bytes(t, "sheet_query, refused, listing", &lent, refusal, sizeof refusal - 1, 0);
 }
 
+/* A query over a two-way label with so many work words: number and place, and how many words of registers and of rows there are. */
+static void two_way_query(struct tally *t, const char *what, size_t work_words, uint32_t number, uint32_t place, size_t done, size_t given)
+{
+    struct answer a;
+    struct words to, work, out;
+    uint32_t *l = lend(&to, COUNT(two_way_list)), *w = lend(&work, work_words), *r = lend(&out, COUNT(two_way_rows) + 1);
+    uint32_t found = matcher_query(TWO_WAY, l, to.len, w, work.len, r, out.len, &ready(&a)->place, &a.count);
+    says(t, what, found, &a, number, place);
+    same(t, what, a.count, given);
+    holds(t, what, &to, two_way_list, COUNT(two_way_list), 0);
+    holds(t, what, &work, two_way_registers, done, 0);
+    holds(t, what, &out, two_way_rows, given, FILL);
+}
+
+static void two_way(struct tally *t)
+{
+    static const uint32_t marked_class[] = {1, 0, 32768}, no_pairs[] = {0, 1, 32768}, too_many[] = {0, 1, 36865};
+    const size_t exact = COUNT(two_way_registers), text = sizeof two_way_listing - 1;
+    struct answer a;
+    struct bytes lent;
+    uint8_t *to = lend_bytes(&lent, text + 1);
+    says(t, "a two-way label", matcher_check_feed(two_way_feed, COUNT(two_way_feed), &ready(&a)->place), &a, 0, 0);
+    says(t, "a two-way label, no pairs", matcher_check_feed(no_pairs, COUNT(no_pairs), &ready(&a)->place), &a, 0, 0);
+    says(t, "a two-way label, too many", matcher_check_feed(too_many, COUNT(too_many), &ready(&a)->place), &a, 2, 2);
+    says(t, "a marked class", matcher_check_feed(marked_class, COUNT(marked_class), &ready(&a)->place), &a, 2, 2);
+    two_way_query(t, "query, two-way", exact, 0, 0, exact, COUNT(two_way_rows));
+    two_way_query(t, "query, two-way, a word short", exact - 1, 10, 7, exact - 2, 0);
+    two_way_query(t, "query, two-way, no room for the label", 7, 10, 2, 4, 0);
+    same(t, "sheet_query, two-way", matcher_sheet_query((const uint8_t *)two_way_sheet, sizeof two_way_sheet - 1, to, lent.len), text);
+    holds_bytes(t, "sheet_query, two-way, listing", &lent, two_way_listing, text, FILL & 0xff);
+}
+
 static void all_calls(struct tally *t)
 {
     checks(t);
@@ -225,6 +273,7 @@ static void all_calls(struct tally *t)
     runs(t);
     queries(t);
     sheets(t);
+    two_way(t);
 }
 
 /* ---- a null pointer with length 0, for every slice of every call */
