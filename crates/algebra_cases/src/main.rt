@@ -50,6 +50,16 @@ fn composed() {
     show(&mut short, b"composed, a word short", &feed, &list, 0);
 }
 
+// Two-way labels, {(3,3),(5,4)} and {(1,2),(2,1)}: each pair in both directions, and once. Ten words suffice.
+fn two_way() {
+    let feed = [0u32, 2, 32770, 32770, 3, 3, 5, 4, 1, 2, 2, 1];
+    let list = [1u32, 0, 0, 1, 1, 0];
+    let mut enough = [7u32; 10];
+    show(&mut enough, b"two-way", &feed, &list, 0);
+    let mut short = [7u32; 9];
+    show(&mut short, b"two-way, a word short", &feed, &list, 0);
+}
+
 // The kinds that work on one table, over the label {(1,2),(2,2),(3,1)}.
 fn one_table() {
     let feed = [0u32, 1, 3, 1, 2, 2, 2, 3, 1];
@@ -140,10 +150,12 @@ fn sheet() {
 fn refused() {
     let feed = [1u32, 0, 2, 5, 5, 9, 9];
     let double = [1u32, 0, 2, 5, 5, 5, 5];
+    let marked = [1u32, 0, 32769, 5, 5];
     let partial = [0u32, 0, 0, 2, 0];
     let later = [0u32, 0, 0, 2, 1, 0];
     let mut work = [7u32; 4];
     show(&mut work, b"a pair twice in the feed", &double, &partial, 0);
+    show(&mut work, b"a mark on a class", &marked, &partial, 0);
     show(&mut work, b"a part of an instruction", &feed, &partial, 0);
     show(&mut work, b"an operand not earlier", &feed, &later, 0);
 }
@@ -151,6 +163,7 @@ fn refused() {
 fn main() {
     tags();
     composed();
+    two_way();
     one_table();
     two_tables();
     crossed();

@@ -107,6 +107,20 @@ fn sheet() {
     show(b"the slice", 0, 0, &three);
 }
 
+// The same drawing over a two-way label, whose pairs (2,1), (2,3) and (4,3) are met in either direction; and with a mark on the class.
+fn two_way() {
+    let feed = [1u32, 1, 4, 32771, 1, 1, 2, 2, 3, 3, 4, 4, 2, 1, 2, 3, 4, 3];
+    let d = row_of_three();
+    show_check(b"two-way", &feed, d);
+    let mut enough = [7u32; 17];
+    show_rows(b"its rows", &feed, d, &mut enough);
+    show(b"the slice", 0, 0, &enough);
+    let mut short = [7u32; 15];
+    show_rows(b"in fifteen words", &feed, d, &mut short);
+    let marked = [1u32, 1, 32772, 0, 1, 1, 2, 2, 3, 3, 4, 4];
+    show_rows(b"a marked class", &marked, d, &mut enough);
+}
+
 // Three nodes more.
 fn nodes(d: Drawing) -> Drawing {
     let first = d.with_node(0, 1).drawing;
@@ -153,6 +167,7 @@ fn waiting() {
 
 fn main() {
     sheet();
+    two_way();
     full();
     waiting();
 }
