@@ -10,8 +10,13 @@ pub type Pairs = Vec<(u32, u32)>;
 pub struct Program {
     classes: Vec<Pairs>,
     labels: Vec<Pairs>,
+    /// the labels that are two-way
+    two_way: BTreeSet<usize>,
     pub list: Vec<u32>,
 }
+
+/// What a label's count word is raised by where the label is two-way.
+const MARK: u32 = 32_768;
 
 impl Program {
     /// One instruction more; gives its register.
@@ -32,6 +37,12 @@ impl Program {
         self.labels.len() as u32 - 1
     }
 
+    /// A two-way label of the feed, not loaded.
+    pub fn two_way(&mut self, pairs: Pairs) -> u32 {
+        self.two_way.insert(self.labels.len());
+        self.label(pairs)
+    }
+
     /// A register that holds these pairs, which ascend.
     pub fn table(&mut self, pairs: &[(u32, u32)]) -> u32 {
         if pairs.len() <= 4096 {
@@ -45,10 +56,11 @@ impl Program {
     }
 
     pub fn feed(&self) -> Vec<u32> {
-        let tables = || self.classes.iter().chain(&self.labels);
+        let mark = |k: usize| if self.two_way.contains(&k) { MARK } else { 0 };
         let mut feed = vec![self.classes.len() as u32, self.labels.len() as u32];
-        feed.extend(tables().map(|t| t.len() as u32));
-        feed.extend(tables().flatten().flat_map(|&(u, v)| [u, v]));
+        feed.extend(self.classes.iter().map(|t| t.len() as u32));
+        feed.extend(self.labels.iter().enumerate().map(|(k, t)| t.len() as u32 + mark(k)));
+        feed.extend(self.classes.iter().chain(&self.labels).flatten().flat_map(|&(u, v)| [u, v]));
         feed
     }
 }

@@ -3,6 +3,7 @@
 use crate::measure::{Bench, Times, PASSES};
 use crate::operands::{ordinary, pairs, shuffled, Pairs, Program};
 use crate::random::Random;
+use std::collections::BTreeSet;
 
 pub const SIZES: [usize; 3] = [1_000, 8_000, 65_536];
 
@@ -37,6 +38,7 @@ const FORETOLD: &str = "the merge picks and does not branch, so each step waits 
     the branch is foretold and slower where it is not, and copies the rest of a table as a whole";
 const LAST: &str = "a left value is written where it stands for the last time, so each step looks at two pairs and for the end of the table";
 const GROUP: &str = "the room is tested at each pair; the peer tests it once and copies the group as a whole";
+const TURNED: &str = "the turned pairs are gathered by calls, down to halves of one pair; the room is tested at each pair of the merge";
 const SHORT: &str = "a loop of one or two cycles a pair, for which the place that the linker gives it counts as much as its text";
 
 /// Adds the operands of about so many pairs to a program, and gives the operator's two words.
@@ -96,6 +98,18 @@ fn loaded(p: &mut Program, n: usize, kind: u32) -> (u32, u32) {
     }
 }
 
+/// n pairs over about n / 2 objects, at random: some four neighbours for each; each pair in one of its two directions.
+fn once(r: &mut Random, n: usize) -> Pairs {
+    let mut all: BTreeSet<(u32, u32)> = BTreeSet::new();
+    while all.len() < n {
+        let (u, v) = (r.below(n / 2) as u32, r.below(n / 2) as u32);
+        if u != v && !all.contains(&(v, u)) {
+            all.insert((u, v));
+        }
+    }
+    all.into_iter().collect()
+}
+
 /// n pairs, each only in the first table, only in the second, or in both.
 fn thirds(p: &mut Program, r: &mut Random, n: usize) -> (u32, u32) {
     let all: Vec<((u32, u32), usize)> = ordinary(r, n).into_iter().map(|x| (x, r.below(3))).collect();
@@ -120,6 +134,12 @@ fn cases() -> Vec<Case> {
     vec![
         case(0, "a class", LOAD, |p, _, n| loaded(p, n, 0)),
         case(1, "a label", LOAD, |p, _, n| loaded(p, n, 1)),
+        case(1, "two-way, each pair once, at random", TURNED, |p, r, n| (p.two_way(once(r, n)), 0)),
+        case(1, "two-way, both directions stored", TURNED, |p, r, n| {
+            let half = once(r, n / 2);
+            let both: BTreeSet<(u32, u32)> = half.iter().copied().chain(half.iter().map(|&(u, v)| (v, u))).collect();
+            (p.two_way(both.into_iter().collect()), 0)
+        }),
         case(2, "four rights a left, at random", PAIRS, |p, r, n| one(p, &ordinary(r, n))),
         case(2, "rights descend", PAIRS, |p, _, n| one(p, &graph(n, |i| n as u32 - 1 - i))),
         case(2, "rights ascend with the lefts", CALLS, |p, _, n| one(p, &graph(n, |i| i))),

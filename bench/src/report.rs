@@ -16,8 +16,9 @@ operator and one without it, so that checks, loads and the making of the operand
 each list, and 40,000 random ones, and gave the same number, place and words.
 
 A size is that of the operand, or of the result where that is larger; of intersection, union and difference it is that of the union. Larger operands than
-the 4,096 pairs of a table in a feed are made by unions; loads are timed at 1,000 and 4,096. Up to sixteen operands are used in turn, so that no branch is learned by
-heart. Loops of one or two cycles a pair vary by a factor of two with the place that the linker gives them.
+the 4,096 pairs of a table in a feed are made by unions; loads are timed at 1,000 and 4,096 stored pairs, of which a two-way label gives up to twice as many.
+Up to sixteen operands are used in turn, so that no branch is learned by heart. Loops of one or two cycles a pair vary by a factor of two with the place that
+the linker gives them.
 ";
 
 fn each<'r>(row: &'r Row, f: impl Fn(usize, f64, f64) -> String + 'r) -> Vec<String> {
