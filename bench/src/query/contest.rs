@@ -25,7 +25,7 @@ pub const UNPROVED: usize = 3;
 pub const PASSES: usize = 3;
 
 /// More words of work than any drawing of the bench needs.
-const AMPLE: usize = 1 << 22;
+pub const AMPLE: usize = 1 << 22;
 
 /// A frame as each matcher wants it.
 pub struct Ready<'f> {
@@ -109,15 +109,15 @@ fn timed(matcher: &mut dyn Matcher, times: usize) -> f64 {
 }
 
 /// Turns for so many seconds, three at least. Each matcher is asked as often as takes about a millisecond, and each goes first in its turn.
-fn take_turns(mut matchers: [&mut dyn Matcher; 4], seconds: f64) -> Vec<[f64; 4]> {
+pub fn take_turns<const N: usize>(mut matchers: [&mut dyn Matcher; N], seconds: f64) -> Vec<[f64; N]> {
     let often = |matcher: &mut dyn Matcher| ((1e-3 / timed(matcher, 1).max(1e-7)) as usize).max(1);
     let times = matchers.each_mut().map(|matcher| often(*matcher));
     let start = now();
-    let mut turns: Vec<[f64; 4]> = Vec::new();
+    let mut turns: Vec<[f64; N]> = Vec::new();
     while turns.len() < 3 || now() - start < seconds {
-        let mut turn = [0.0; 4];
-        for k in 0..4 {
-            let which = (k + turns.len()) % 4;
+        let mut turn = [0.0; N];
+        for k in 0..N {
+            let which = (k + turns.len()) % N;
             turn[which] = timed(matchers[which], times[which]) / times[which] as f64;
         }
         turns.push(turn);
@@ -125,15 +125,17 @@ fn take_turns(mut matchers: [&mut dyn Matcher; 4], seconds: f64) -> Vec<[f64; 4]
     turns
 }
 
+/// Seconds of something that is done so often.
+pub fn usual<T>(times: usize, f: impl Fn() -> T) -> f64 {
+    let once = |_| {
+        let start = now();
+        std::hint::black_box(f());
+        now() - start
+    };
+    median((0..times).map(once).collect())
+}
+
 /// Seconds that it takes to make a frame ready, before any query: the check of the feed, which each proved query makes, a database, an index.
 pub fn preparation(frame: &Frame) -> [f64; 3] {
-    fn usual<T>(times: usize, f: impl Fn() -> T) -> f64 {
-        let once = |_| {
-            let start = now();
-            std::hint::black_box(f());
-            now() - start
-        };
-        median((0..times).map(once).collect())
-    }
     [usual(99, || matcher::check_feed(&frame.feed)), usual(5, || Database::new(frame, true)), usual(99, || Index::new(frame))]
 }

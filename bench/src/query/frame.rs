@@ -163,16 +163,27 @@ impl Frame {
         let labels: Vec<Vec<_>> = [touch, above, layout.covers].into_iter().map(|t: Pairs| t.into_iter().collect()).collect();
         let classes: Vec<Vec<u32>> = layout.classes.into_iter().map(|c| c.into_iter().collect()).collect();
         assert!(classes.iter().map(Vec::len).chain(labels.iter().map(Vec::len)).all(|n| n <= CEILING), "a table is over its ceiling");
-        let feed = words(&classes, &labels);
+        let feed = words(&classes, &labels, None);
         Frame { regions: layout.regions, classes, labels, both, neighbours, feed }
+    }
+
+    /// The feed of the same frame in which `touch` is two-way, and has each touching pair once, in chance order.
+    pub fn stored_once(&self) -> Vec<u32> {
+        let mut r = Random::new(self.regions as u64);
+        let pairs = self.labels[TOUCH].iter().filter(|(u, v)| u < v);
+        let touch: Pairs = pairs.map(|&(u, v)| if r.one_in(2) { (u, v) } else { (v, u) }).collect();
+        let mut labels = self.labels.clone();
+        labels[TOUCH] = touch.into_iter().collect();
+        words(&self.classes, &labels, Some(TOUCH))
     }
 }
 
-/// The words of a feed.
-fn words(classes: &[Vec<u32>], labels: &[Vec<(u32, u32)>]) -> Vec<u32> {
+/// The words of a feed; the count word of a two-way label is raised by 32,768.
+fn words(classes: &[Vec<u32>], labels: &[Vec<(u32, u32)>], two_way: Option<usize>) -> Vec<u32> {
+    let mark = |label: usize| if two_way == Some(label) { 32_768 } else { 0 };
     let mut feed = vec![classes.len() as u32, labels.len() as u32];
     feed.extend(classes.iter().map(|c| c.len() as u32));
-    feed.extend(labels.iter().map(|t| t.len() as u32));
+    feed.extend(labels.iter().enumerate().map(|(k, t)| t.len() as u32 + mark(k)));
     feed.extend(classes.iter().flatten().flat_map(|&u| [u, u]));
     feed.extend(labels.iter().flatten().flat_map(|&(u, v)| [u, v]));
     feed

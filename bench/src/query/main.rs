@@ -12,6 +12,7 @@ mod plot;
 mod proved;
 mod reduction;
 mod sqlite;
+mod two_way;
 
 // shared with the operators' bench and the tests
 #[path = "../clock.rs"]
@@ -27,6 +28,7 @@ mod random;
 use contest::{Cell, Ready, PASSES};
 use drawings::Drawing;
 use frame::Frame;
+use two_way::{Feeds, Pair};
 
 const SIZES: [usize; 4] = [50, 500, 1_300, 4_000];
 
@@ -40,6 +42,27 @@ pub struct Results {
     bare: Vec<Cell>,
     /// for each frame: the feed's check, SQLite's load, the index
     preparation: Vec<[f64; 3]>,
+    touching: Touching,
+}
+
+/// The frames with both directions of each touching pair, and the same with each pair once.
+pub struct Touching {
+    /// for each frame: its words with both directions and with each pair once; the checks of both
+    feeds: Vec<(usize, [usize; 2], [f64; 2])>,
+    /// for each drawing, a pair of times for each of these frames
+    pairs: Vec<Vec<Pair>>,
+}
+
+fn stored_once(frames: &[Frame], drawings: &[Drawing], seconds: f64) -> Touching {
+    let feeds: Vec<Feeds> = frames.iter().filter(|frame| frame.both).map(Feeds::new).collect();
+    let mut pairs: Vec<Vec<Pair>> = drawings.iter().map(|_| feeds.iter().map(|_| Pair::default()).collect()).collect();
+    for _ in 0..PASSES {
+        for (drawing, pairs) in drawings.iter().zip(&mut pairs) {
+            feeds.iter().zip(pairs).for_each(|(feeds, pair)| pair.measure(feeds, drawing, seconds / PASSES as f64));
+        }
+    }
+    let words = |feeds: &Feeds| (feeds.frame.regions, [feeds.frame.feed.len(), feeds.once.len()], feeds.checks());
+    Touching { feeds: feeds.iter().map(words).collect(), pairs }
 }
 
 fn measured(seconds: f64) -> Results {
@@ -61,7 +84,8 @@ fn measured(seconds: f64) -> Results {
         }
     }
     let preparation = frames.iter().map(contest::preparation).collect();
-    Results { frames: frames.into(), drawings, cells, bare, preparation }
+    let touching = stored_once(&frames, &drawings, seconds / 4.0);
+    Results { frames: frames.into(), drawings, cells, bare, preparation, touching }
 }
 
 fn main() {

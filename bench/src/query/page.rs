@@ -29,6 +29,12 @@ number to the higher. Its regions touch only about two others, and most drawings
 the class `region`, some are in others. The same frames come out of every run.
 ";
 
+const STORED_ONCE: &str = "\
+The frames above have each touching pair in both directions. Here each stands once, in chance order, and `touch` is two-way: its part of the feed is half as long, the translations are the
+same word for word, and so are all registers and rows; otherwise the bench fails. The check of the feed sees fewer pairs, and each load of `touch` turns and merges them. **A ratio is the time
+of the proved query with each pair stored once to its time with both directions stored, the median of the turns: below 1 the two-way label is faster.**
+";
+
 /// From this ratio on a query is called even.
 const EVEN: f64 = 0.9;
 
@@ -202,6 +208,38 @@ fn preparation(results: &Results) -> String {
     text
 }
 
+/// The feeds with both directions of each touching pair, and with each once.
+fn halved(results: &Results) -> String {
+    let mut text = String::from(
+        "| regions | words of the feed, both directions | words, each pair once | check, both directions, µs | check, each pair once, µs |\n\
+        |---:|---:|---:|---:|---:|\n",
+    );
+    for (regions, words, checks) in &results.touching.feeds {
+        text += &row([count(*regions)].into_iter().chain(words.map(count)).chain(checks.map(micro)));
+    }
+    text
+}
+
+/// The queries on both.
+fn stored_once(results: &Results) -> String {
+    let mut text =
+        String::from("| drawing | regions | rows | both directions, µs | each pair once, µs | once / both |\n|---|---:|---:|---:|---:|---:|\n");
+    let mut ratios = Vec::new();
+    for (drawing, pairs) in results.drawings.iter().zip(&results.touching.pairs) {
+        for (i, pair) in pairs.iter().enumerate() {
+            let name = if i == 0 { drawing.name } else { "" };
+            let [both, once] = pair.times().map(micro);
+            let rows = pair.refused.map_or(count(pair.rows), |(number, place)| format!("refused: {number} at {place}"));
+            ratios.push((pair.ratio(), format!("{}, {}", drawing.name, count(pair.regions))));
+            text += &row([name.into(), count(pair.regions), rows, both, once, ratio(pair.ratio())]);
+        }
+    }
+    ratios.sort_by(|a, b| a.0.total_cmp(&b.0));
+    let [least, most] = [0, ratios.len() - 1].map(|k| format!("{} ({})", ratio(ratios[k].0), ratios[k].1));
+    let usual = ratio(median(ratios.iter().map(|one| one.0).collect()));
+    format!("{text}\nThe ratio goes from {least} to {most}, the median is {usual}.\n")
+}
+
 pub fn page(results: &Results) -> String {
     [
         "# The query, beside SQLite, a search and an unproved algebra\n\nWritten by `bench/query`; x86-64, one core. \
@@ -222,6 +260,12 @@ pub fn page(results: &Results) -> String {
         &drawings(results),
         "\n## Before the first query\n\nWhat SQLite and the search do once for each frame, and the proved query each time:\n\n",
         &preparation(results),
+        "\n## Touching pairs stored once\n\n",
+        STORED_ONCE,
+        "\n",
+        &halved(results),
+        "\n",
+        &stored_once(results),
     ]
     .concat()
 }

@@ -1,0 +1,73 @@
+//! Touching pairs stored once, under a two-way label, beside the same frame with both directions stored: the same rows from a shorter feed, and
+//! the proved query's times on both.
+
+use crate::algebra::Algebra;
+use crate::clock::median;
+use crate::contest::{take_turns, usual, Matcher, AMPLE};
+use crate::drawings::Drawing;
+use crate::frame::{Frame, TOUCH};
+use crate::proved::Proved;
+
+/// A frame as both feeds tell it: both directions stored, and each pair once.
+pub struct Feeds<'f> {
+    pub frame: &'f Frame,
+    pub once: Vec<u32>,
+}
+
+impl<'f> Feeds<'f> {
+    pub fn new(frame: &'f Frame) -> Self {
+        let once = frame.stored_once();
+        let touching = frame.labels[TOUCH].len();
+        assert_eq!(frame.feed.len() - once.len(), touching, "the touching part is not half as long");
+        Feeds { frame, once }
+    }
+
+    /// Seconds of a check of each feed.
+    pub fn checks(&self) -> [f64; 2] {
+        [&self.frame.feed, &self.once].map(|feed| usual(99, || matcher::check_feed(feed)))
+    }
+}
+
+/// What is known of one drawing on one frame.
+#[derive(Default)]
+pub struct Pair {
+    pub regions: usize,
+    pub rows: usize,
+    pub refused: Option<(u32, u32)>,
+    turns: Vec<[f64; 2]>,
+}
+
+impl Pair {
+    /// Seconds of a query: both directions stored, and each pair once.
+    pub fn times(&self) -> [f64; 2] {
+        [0, 1].map(|which| median(self.turns.iter().map(|turn| turn[which]).collect()))
+    }
+
+    /// The time with each pair stored once to that with both directions: the median of the turns.
+    pub fn ratio(&self) -> f64 {
+        median(self.turns.iter().map(|turn| turn[1] / turn[0]).collect())
+    }
+
+    /// Asks over both feeds, compares rows, instructions and every register, and adds times for so many seconds.
+    pub fn measure(&mut self, feeds: &Feeds, drawing: &Drawing, seconds: f64) {
+        let (name, words) = (drawing.name, drawing.words());
+        let mut unproved = [&feeds.frame.feed, &feeds.once].map(|feed| Algebra::new(feed, &words, AMPLE));
+        let answers = unproved.each_mut().map(|algebra| algebra.ask().map(<[u32]>::to_vec));
+        assert!(answers[0] == answers[1], "{name}: the two feeds give different rows");
+        let [both, once] = &mut unproved;
+        assert!(both.reduction.list == once.reduction.list, "{name}: the two feeds give different instructions");
+        assert!(both.work == once.work, "{name}: the two feeds give different registers");
+
+        let (answer, list) = (&answers[0], &both.reduction.list);
+        let refused = answer.as_ref().err().copied();
+        let work = both.fit(refused.map_or(list.len() / 3, |(_, place)| place as usize));
+        let row_words = answer.as_ref().map_or(0, Vec::len);
+        let mut proved = [&feeds.frame.feed, &feeds.once].map(|feed| Proved::new(feed, &words, both.reduction.list.len(), work, row_words));
+        for one in &mut proved {
+            assert!(one.ask().map(<[u32]>::to_vec) == *answer, "{name}: the proved query and the unproved algebra differ");
+        }
+        let [first, second] = &mut proved;
+        self.turns.extend(take_turns([first, second], seconds));
+        (self.regions, self.rows, self.refused) = (feeds.frame.regions, row_words / drawing.picks().len(), refused);
+    }
+}
