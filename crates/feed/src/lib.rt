@@ -9,7 +9,7 @@ use tables::Pair;
 ghost use mathlib.Core.Path.{_≡_};
 ghost use mathlib.Core.Bool.{_&&_};
 ghost use mathlib.Core.List.{[]};
-ghost use Prim.Native.Nat.{_+_, _*_, _<_};
+ghost use Prim.Native.Nat.{_+_, _*_, _<_, _≤_};
 ghost use lib.Dec.{leb};
 ghost use lib.ListN.{length, take, drop, getD};
 ghost use Rattle.tables.specs.Order.{comparePair, isLess};
@@ -39,6 +39,21 @@ fn word(feed: &[u32], i: usize) -> usize
     ensures { λ r. ⌜ r ≡ getD (now (feed .entry)) i 0 ⌝ }
 {
     feed[i] as usize
+}
+
+// How many classes a feed has, and how many labels.
+pub fn class_count(feed: &[u32]) -> u32
+    requires { ⌜ 2 ≤ length (now feed) ⌝ }
+    ensures { λ r. ⌜ r ≡ classCount (now (feed .entry)) ⌝ }
+{
+    feed[0]
+}
+
+pub fn label_count(feed: &[u32]) -> u32
+    requires { ⌜ 2 ≤ length (now feed) ⌝ }
+    ensures { λ r. ⌜ r ≡ labelCount (now (feed .entry)) ⌝ }
+{
+    feed[1]
 }
 
 // The pair whose left word is at i.
