@@ -5,12 +5,12 @@ use Rattle.tables.specs.Lists.{keep, all, any, count, below, total, placed, pad
 use Rattle.tables.specs.Order.{place, insert, normal, next, comparePair, compareRow, table, has}
 use Rattle.tables.specs.Slices.{tableWords, tablesWords}
 use Rattle.answers.specs.Verdict.{number, location, unless, _then_}
-use Rattle.feed.specs.Feed.{classCount, labelCount, tableCount, countWords, body, countWord, isMarked, sizeOf, counts, pairsOf, cut, tables}
+use Rattle.feed.specs.Feed.{classCount, labelCount, tableCount, countWords, body, countWord, isMarked, sizeOf, counts, isTwoWay, pairsOf, cut, tables}
 use Rattle.feed.specs.Feed.{classTable, labelTable, labelWord, feedWords, checkCounts, above, checkPair, checkPairs, checkTables, checkFeed}
 use Rattle.drawing.specs.Drawing.{isPicked, nodeCount, edgeCount, nodeWords, nodeOf, edgeWords, edgeOf, drawingWords, readEach, patternOf, checkNode, checkEdge, checkEach as checkParts, checkLength, checkPattern, checkDrawing}
-use Rattle.drawing.specs.Embeddings.{choices, objects, edgeHolds, embeddings, picked, rows}
+use Rattle.drawing.specs.Embeddings.{choices, objects, isMet, edgeHolds, embeddings, picked, rows}
 use Rattle.algebra.specs.Instructions.{instructionsOf, wordsOf, signatures, isOperand, isValid, checkEach, checkInstructions}
-use Rattle.algebra.specs.Operators.{inverse, composition, intersection, tag, leftTag, rightTag, tau, cross, operators, operator}
+use Rattle.algebra.specs.Operators.{inverse, composition, intersection, union, bothWays, loadedLabel, tag, leftTag, rightTag, tau, cross, operators, operator}
 use Rattle.algebra.specs.Run.{register, result, registersAfter, registers, checkSizes, roomOf, runVerdict, finished, workAfter, runChecked, run}
 use Rattle.translator.specs.Program.{after, return, _>>=_, write, each}
 use Rattle.translator.specs.State.{vertexAt, arcAt, liveVertices, liveArcs, setVertex, setArc, touches, farEnd, arcsAt, holdsPick}
@@ -29,9 +29,9 @@ use Rattle.sheet.specs.Cases.{case, sheets}
 
 pub as-stated : map (λ c. sheetListing (bytes (c .sheet))) sheets ≡ map (λ c. bytes (c .listing)) sheets
 unfolding flatMap keep all any count below total placed padded place insert normal next comparePair compareRow table has number location unless _then_ classCount labelCount tableCount counts body
-    pairsOf cut tables classTable labelTable feedWords checkCounts above checkPair checkPairs checkTables checkFeed isPicked nodeCount edgeCount nodeWords nodeOf edgeWords edgeOf drawingWords readEach
-    patternOf checkNode checkEdge checkParts checkLength checkPattern checkDrawing choices objects edgeHolds embeddings picked rows instructionsOf wordsOf signatures isOperand isValid checkEach
-    checkInstructions inverse composition intersection tag leftTag rightTag tau cross operators operator register result registersAfter registers checkSizes roomOf runVerdict tableWords tablesWords
+    pairsOf cut tables isTwoWay classTable labelTable feedWords checkCounts above checkPair checkPairs checkTables checkFeed isPicked nodeCount edgeCount nodeWords nodeOf edgeWords edgeOf drawingWords readEach
+    patternOf checkNode checkEdge checkParts checkLength checkPattern checkDrawing choices objects isMet edgeHolds embeddings picked rows instructionsOf wordsOf signatures isOperand isValid checkEach
+    checkInstructions inverse composition intersection union bothWays loadedLabel tag leftTag rightTag tau cross operators operator register result registersAfter registers checkSizes roomOf runVerdict tableWords tablesWords
     finished workAfter runChecked run after return _>>=_ write each vertexAt arcAt liveVertices liveArcs setVertex setArc touches farEnd arcsAt holdsPick turned carriedArc moveArc carriedPath
     carriedPick movePick combine applyLoop applyParallel applyChain applyJoin applyProduct apply loops sameEnds parallels chainAt chains others fewer fewest joins productAt products nextMove proceed
     reduce loadVertex loadArc picksFrom load translation image follow lastRegister rowsThrough checkList pickCount rowWords checkRows answer query bytes addByte split fields within isName
