@@ -29,13 +29,16 @@
 #include <stddef.h>
 #include <stdint.h>
 
-#define MATCHER_VERSION "1.0.0"
+#define MATCHER_VERSION "1.1.0"
 #define MATCHER_VERSION_MAJOR 1
-#define MATCHER_VERSION_MINOR 0
+#define MATCHER_VERSION_MINOR 1
 #define MATCHER_VERSION_PATCH 0
 
 /* Words that take every translation: 864 instructions. */
 #define MATCHER_LIST_WORDS 2592
+
+/* By how much the count word of a two-way label is raised. */
+#define MATCHER_TWO_WAY 32768
 
 /* Bytes that take every listing. */
 #define MATCHER_LISTING_BYTES 24732
@@ -44,7 +47,7 @@
 extern "C" {
 #endif
 
-/* Checks a feed: 1 to 4. */
+/* Checks a feed: 1 to 4. The count word of a two-way label, whose pairs count in either direction, is raised by MATCHER_TWO_WAY. */
 uint32_t matcher_check_feed(const uint32_t *feed, size_t feed_len, uint32_t *place);
 
 /* Checks a feed, then a drawing: 1 to 7. */

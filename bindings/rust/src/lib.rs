@@ -15,6 +15,9 @@ use std::fmt;
 /// An instruction list of so many words has room for every translation: 864 instructions.
 pub const LIST_WORDS: usize = 2_592;
 
+/// By how much the count word of a two-way label is raised, whose pairs count in either direction.
+pub const TWO_WAY: u32 = 32_768;
+
 /// A listing of so many bytes has room for the answer to every sheet.
 pub const LISTING_BYTES: usize = 24_732;
 
@@ -34,7 +37,7 @@ impl Refusal {
     fn meaning(self) -> &'static str {
         match self.number {
             1 => "the feed is too short, or not exactly as long as its counts say",
-            2 => "over 32 classes, 64 labels or 4,096 pairs in a table",
+            2 => "over 32 classes, 64 labels or 4,096 pairs in a table, or a class with the mark of a two-way label",
             3 => "a value above 65,535, or a pair not above the one before it",
             4 => "a class pair with unequal sides",
             5 => "a drawing of the wrong length, or with too few or too many nodes or edges",

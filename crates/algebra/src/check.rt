@@ -3,6 +3,8 @@ use crate::Shape;
 use crate::Step;
 use answers::Answer;
 use feed::check_feed;
+use feed::class_count;
+use feed::label_count;
 use limits::LIST_WORDS;
 ghost use mathlib.Core.Path.{_≡_};
 ghost use Prim.Native.Nat.{_+_, _*_, _≤_};
@@ -31,8 +33,8 @@ fn are_operands(feed: &[u32], i: u32, shape: Shape, a: u32, b: u32) -> bool
     ensures { λ r. ⌜ r ≡ areOperands (now (feed .entry)) i (operandsOf shape) a b ⌝ }
 {
     match shape {
-        Shape::Class => (a < feed[0]) & (b == 0),
-        Shape::Label => (a < feed[1]) & (b == 0),
+        Shape::Class => (a < class_count(feed)) & (b == 0),
+        Shape::Label => (a < label_count(feed)) & (b == 0),
         Shape::One => (a < i) & (b == 0),
         Shape::Two => (a < i) & (b < i),
         Shape::Value => a < i,

@@ -1,9 +1,14 @@
 // Cases of the algebra: the belt cases of document 01 that concern it, each of the sixteen kinds, and refusals. Each prints a line: its
 // name, number and place, then the words of the work slice.
 
+use limits::PAIRS;
 use matcher::matcher_run;
-ghost use Prim.Native.Nat.{_+_, _<_, _≤_};
+ghost use Prim.Native.Nat.{_+_, _≤_};
 ghost use lib.ListN.{length};
+ghost use Rattle.limits.specs.Limits.{largestObject};
+
+// The words of classes of 256 and 257 objects, then of a register of the largest size.
+const CROSSED_WORDS: usize = 2 * (256 + 257 + PAIRS);
 
 // Prints some text, then a number.
 fn print(text: &[u8], n: u32) {
@@ -84,7 +89,7 @@ fn two_tables() {
 
 // Word i of a feed of two classes: the objects from 0 to 255, and so many from 256 on.
 fn word(i: usize, second: u32) -> u32
-    requires { ⌜ i < 65536 ⌝ }
+    requires { ⌜ i ≤ largestObject ⌝ }
 {
     match i {
         0 => 2,
@@ -97,7 +102,7 @@ fn word(i: usize, second: u32) -> u32
 
 // Writes that feed.
 fn fill(feed: &mut [u32], second: u32)
-    requires { ⌜ length (now feed) ≤ 65536 ⌝ }
+    requires { ⌜ length (now feed) ≤ largestObject ⌝ }
 {
     let size = feed.len();
     let mut i = 0;
@@ -110,13 +115,14 @@ fn fill(feed: &mut [u32], second: u32)
 // Two classes of 256 objects crossed are accepted, 256 with 257 are not. Prints the words about the end of the cross.
 fn crossed() {
     let list = [0u32, 0, 0, 0, 1, 0, 10, 0, 1];
-    let mut work = [7u32; 132098];
+    let mut work = [7u32; CROSSED_WORDS];
+    let last = CROSSED_WORDS - 6;
     let mut accepted = [0u32; 1028];
     fill(&mut accepted, 256);
-    show(&mut work, b"256 crossed with 256", &accepted, &list, 132092);
+    show(&mut work, b"256 crossed with 256", &accepted, &list, last);
     let mut refused = [0u32; 1030];
     fill(&mut refused, 257);
-    show(&mut work, b"256 crossed with 257", &refused, &list, 132092);
+    show(&mut work, b"256 crossed with 257", &refused, &list, last);
 }
 
 // Copies some words to the words from number `at` on.

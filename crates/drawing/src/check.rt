@@ -12,6 +12,8 @@ use crate::words::TARGET;
 use crate::words::read_drawing;
 use crate::words::right_length;
 use answers::Answer;
+use feed::class_count;
+use feed::label_count;
 ghost use mathlib.Core.Path.{_≡_};
 ghost use Prim.Native.Nat.{_+_, _*_, _≤_, _<_};
 ghost use lib.ListN.{length};
@@ -109,11 +111,11 @@ fn check_pattern(feed: &[u32], d: Drawing) -> Answer
     requires { ⌜ 2 ≤ length (now feed) ⌝ }
     ensures { λ r. ⌜ verdictOf r ≡ checkPattern (now (feed .entry)) (view d) ⌝ }
 {
-    let nodes = check_nodes(d, feed[0]);
+    let nodes = check_nodes(d, class_count(feed));
     let Answer::Accepted = nodes else {
         return nodes;
     };
-    let edges = check_edges(d, feed[1]);
+    let edges = check_edges(d, label_count(feed));
     let Answer::Accepted = edges else {
         return edges;
     };

@@ -33,15 +33,15 @@ pub counts-start : (feed : List ℕ) → countsLeft feed 0 0 ≡ countsFound (ch
 counts-start feed = rw zero-add
 
 module _ (feed : List ℕ) (counted : 2 + tableCount feed ≤ length feed) (sum k : ℕ) where
-  pub counts-over : k < tableCount feed → mostTablePairs < getD feed (2 + k) 0 → Over (2 + k) ≡ countsLeft feed sum k
+  pub counts-over : k < tableCount feed → mostTablePairs < getD (counts feed) k 0 → Over (2 + k) ≡ countsLeft feed sum k
   unfolding checkCounts unless _then_ countsFound
-  counts-over h l = rw (counts-next feed counted k h, lt-leb (getD feed (2 + k) 0) mostTablePairs l)
+  counts-over h l = rw (counts-next feed counted k h, lt-leb (getD (counts feed) k 0) mostTablePairs l)
 
-  pub counts-pass : k < tableCount feed → getD feed (2 + k) 0 ≤ mostTablePairs → countsLeft feed (sum + getD feed (2 + k) 0) (k + 1) ≡ countsLeft feed sum k
+  pub counts-pass : k < tableCount feed → getD (counts feed) k 0 ≤ mostTablePairs → countsLeft feed (sum + getD (counts feed) k 0) (k + 1) ≡ countsLeft feed sum k
   unfolding checkCounts unless _then_ total
   counts-pass h l =
       let e : 2 + k + 1 ≡ 2 + (k + 1) = omega arith in
-      rw (counts-next feed counted k h, le-leb (getD feed (2 + k) 0) mostTablePairs l, e, add-assoc)
+      rw (counts-next feed counted k h, le-leb (getD (counts feed) k 0) mostTablePairs l, e, add-assoc)
 
   pub counts-end : tableCount feed ≤ k → Sum sum ≡ countsLeft feed sum k
   unfolding checkCounts countsFound total
@@ -98,15 +98,15 @@ tables-start feed =
 
 module _ (feed : List ℕ) (counted : 2 + tableCount feed ≤ length feed) (k i : ℕ) where
   tables-pass : k < tableCount feed → Ends feed k i →
-      checkPairs (ltb k (classCount feed)) i [] (take (getD feed (2 + k) 0) (pairsOf (drop i feed))) then tablesLeft feed (k + 1) (i + 2 * getD feed (2 + k) 0)
+      checkPairs (ltb k (classCount feed)) i [] (take (getD (counts feed) k 0) (pairsOf (drop i feed))) then tablesLeft feed (k + 1) (i + 2 * getD (counts feed) k 0)
       ≡ tablesLeft feed k i
   unfolding checkTables
   tables-pass h ends =
       let e : classCount feed - k - 1 ≡ classCount feed - (k + 1) = omega arith in
-      let l = length-table feed i (getD feed (2 + k) 0) (ends-inside feed counted k i h ends) in
+      let l = length-table feed i (getD (counts feed) k 0) (ends-inside feed counted k i h ends) in
       rw (tables-next feed counted k i h, l, e, class-left)
 
-  pub tables-turn : {v : Verdict} {c n : ℕ} → k < tableCount feed → Ends feed k i → c ≡ classCount feed → n ≡ getD feed (2 + k) 0 →
+  pub tables-turn : {v : Verdict} {c n : ℕ} → k < tableCount feed → Ends feed k i → c ≡ classCount feed → n ≡ getD (counts feed) k 0 →
       v ≡ checkPairs (ltb k c) i [] (take n (pairsOf (drop i feed))) → v then tablesLeft feed (k + 1) (i + 2 * n) ≡ tablesLeft feed k i
   tables-turn h ends e d a = rw (a, e, d) (tables-pass h ends)
 

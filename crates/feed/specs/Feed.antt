@@ -1,13 +1,14 @@
--- Feed: the tables that the words of a feed give, and the check of a feed (document 01, 'Feed and drawing', refusals 1 to 4).
+-- Feed: the tables that the words of a feed give, and the check of a feed (document 01, 'Feed and drawing', refusals 1 to 4; document 02, E1).
 --
--- In order: the parts of a feed; its tables; the words of tables; the check, in document 01's order. A word that is not there reads as 0.
+-- In order: the parts of a feed; count words and sizes; its tables, as they are stored; the words of tables; the check, in document 01's order. A word
+-- that is not there reads as 0.
 -- Assumes nothing.
 use Prim.Native.Nat.{ℕ, _+_, _*_, _-_}
-use mathlib.Core.Bool.{Bool, true, _&&_, not, _||_}
+use mathlib.Core.Bool.{Bool, true, false, _&&_, not, _||_, cond}
 use mathlib.Core.List.{List, [], _∷_, _++_, map}
 use lib.Dec.{eqb, leb, ltb}
 use lib.ListN.{length, getD, take, drop}
-use Rattle.limits.specs.Limits.{mostClasses, mostLabels, mostTablePairs, largestObject}
+use Rattle.limits.specs.Limits.{mostClasses, mostLabels, mostTablePairs, largestObject, twoWayMark}
 use Rattle.tables.specs.declared.Pair.{Pair}
 use Rattle.tables.specs.Order.{Table, pair, comparePair, isLess}
 use Rattle.tables.specs.Lists.{total}
@@ -27,13 +28,35 @@ unfoldable pub tableCount : List ℕ → ℕ
 tableCount feed = classCount feed + labelCount feed
 
 -- "Then come C + L pair counts (each at most 4,096), then the pairs, classes first"
-unfoldable pub counts : List ℕ → List ℕ
-counts feed = take (tableCount feed) (drop 2 feed)
+unfoldable pub countWords : List ℕ → List ℕ
+countWords feed = take (tableCount feed) (drop 2 feed)
 
 unfoldable pub body : List ℕ → List ℕ
 body feed = drop (tableCount feed) (drop 2 feed)
 
--- ---- the tables
+-- ---- count words and sizes
+
+-- "A label may now be two-way: its count word is raised by 32,768"
+unfoldable pub countWord : Bool → ℕ → ℕ
+countWord true n = twoWayMark + n
+countWord false n = n
+
+unfoldable pub isMarked : ℕ → Bool
+isMarked w = leb twoWayMark w
+
+-- "the count without the mark"
+unfoldable pub sizeOf : ℕ → ℕ
+sizeOf w = cond (isMarked w) (w - twoWayMark) w
+
+-- how many pairs each table has; a class has no mark, so its count word is its size
+unfoldable pub counts : List ℕ → List ℕ
+counts feed = take (classCount feed) (countWords feed) ++ map sizeOf (drop (classCount feed) (countWords feed))
+
+-- label k is two-way
+unfoldable pub isTwoWay : List ℕ → ℕ → Bool
+isTwoWay feed k = isMarked (getD (drop (classCount feed) (countWords feed)) k 0)
+
+-- ---- the tables, as they are stored
 
 -- the words, two by two
 unfoldable pub pairsOf : List ℕ → List Pair
@@ -56,16 +79,22 @@ classTable feed k = getD (take (classCount feed) (tables feed)) k []
 unfoldable pub labelTable : List ℕ → ℕ → Table
 labelTable feed k = getD (drop (classCount feed) (tables feed)) k []
 
--- ---- the words of these class tables and these label tables
+-- ---- the words of these class tables and these labels
 
-unfoldable pub feedWords : List Table → List Table → List ℕ
+pub record Label : Type 0 where
+  pub twoWay : Bool
+  pub pairs : Table
+
+unfoldable pub labelWord : Label → ℕ
+labelWord l = countWord (l .twoWay) (length (l .pairs))
+
+unfoldable pub feedWords : List Table → List Label → List ℕ
 feedWords classes labels =
-    let all = classes ++ labels in
-    length classes ∷ length labels ∷ (map length all ++ tablesWords all)
+    length classes ∷ length labels ∷ (map length classes ++ (map labelWord labels ++ tablesWords (classes ++ map (λ l. l .pairs) labels)))
 
 -- ---- the check
 
--- "2: C, L or a count over its ceiling (that word)"
+-- "2: C, L or a count over its ceiling (that word)"; "The ceiling of 4,096 is on the count without the mark; a marked class count is 2"
 unfoldable pub checkCounts : ℕ → List ℕ → Verdict
 checkCounts at [] = accepted
 checkCounts at (n ∷ ns) = unless (leb n mostTablePairs) 2 at then checkCounts (at + 1) ns

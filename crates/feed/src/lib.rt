@@ -4,19 +4,20 @@ use limits::CLASSES;
 use limits::LABELS;
 use limits::OBJECT;
 use limits::TABLE_PAIRS;
+use limits::TWO_WAY;
 use tables::Pair;
 ghost use mathlib.Core.Path.{_≡_};
 ghost use mathlib.Core.Bool.{_&&_};
 ghost use mathlib.Core.List.{[]};
-ghost use Prim.Native.Nat.{_+_, _*_, _<_};
+ghost use Prim.Native.Nat.{_+_, _*_, _<_, _≤_};
 ghost use lib.Dec.{leb};
 ghost use lib.ListN.{length, take, drop, getD};
 ghost use Rattle.tables.specs.Order.{comparePair, isLess};
 ghost use Rattle.tables.specs.Lists.{total};
 ghost use Rattle.answers.specs.Answers.{verdictOf};
-ghost use Rattle.limits.specs.Limits.{largestObject};
-ghost use Rattle.feed.specs.Feed.{classCount, labelCount, tableCount, counts, tables, classTable, labelTable, pairsOf, above, checkCounts, checkPair, checkPairs, checkTables, checkFeed};
-ghost use Rattle.feed.specs.inner.Parts.{pairFrom, before, PairIn, TableIn, Counted, countsFound, Exact, Among, SpanOf};
+ghost use Rattle.limits.specs.Limits.{largestObject, twoWayMark};
+ghost use Rattle.feed.specs.Feed.{classCount, labelCount, tableCount, countWord, isMarked, sizeOf, counts, isTwoWay, tables, classTable, labelTable, pairsOf, above, checkCounts, checkPair, checkPairs, checkTables, checkFeed};
+ghost use Rattle.feed.specs.inner.Parts.{pairFrom, before, PairIn, TableIn, Counted, HasTable, countsFound, Exact, Among, SpanOf};
 
 // What the check of the counts finds.
 enum Counts {
@@ -38,6 +39,21 @@ fn word(feed: &[u32], i: usize) -> usize
     ensures { λ r. ⌜ r ≡ getD (now (feed .entry)) i 0 ⌝ }
 {
     feed[i] as usize
+}
+
+// How many classes a feed has, and how many labels.
+pub fn class_count(feed: &[u32]) -> u32
+    requires { ⌜ 2 ≤ length (now feed) ⌝ }
+    ensures { λ r. ⌜ r ≡ classCount (now (feed .entry)) ⌝ }
+{
+    feed[0]
+}
+
+pub fn label_count(feed: &[u32]) -> u32
+    requires { ⌜ 2 ≤ length (now feed) ⌝ }
+    ensures { λ r. ⌜ r ≡ labelCount (now (feed .entry)) ⌝ }
+{
+    feed[1]
 }
 
 // The pair whose left word is at i.
@@ -131,6 +147,47 @@ fn table_count(feed: &[u32]) -> usize
     word(feed, 0) + word(feed, 1)
 }
 
+// ---- count words
+
+// The count word of a table: its size, raised by the mark where it is a two-way label's.
+pub fn count_word(size: u32, marked: bool) -> u32
+    requires { ⌜ size < twoWayMark ⌝ }
+    ensures { λ r. ⌜ r ≡ countWord marked size ⌝ }
+{
+    if marked {
+        return TWO_WAY + size;
+    }
+    size
+}
+
+// Whether a count word has the mark.
+fn is_marked(word: u32) -> bool
+    ensures { λ r. ⌜ r ≡ isMarked word ⌝ }
+{
+    TWO_WAY <= word
+}
+
+// A label's count word without its mark.
+fn size_of(word: u32) -> u32
+    ensures { λ r. ⌜ r ≡ sizeOf word ⌝ }
+{
+    if word < TWO_WAY {
+        return word;
+    }
+    word - TWO_WAY
+}
+
+// How many pairs table k has, classes first.
+fn size_at(feed: &[u32], k: usize) -> usize
+    requires { ⌜ HasTable (now feed) k ⌝ }
+    ensures { λ r. ⌜ r ≡ getD (counts (now (feed .entry))) k 0 ⌝ }
+{
+    if k < word(feed, 0) {
+        return word(feed, 2 + k);
+    }
+    size_of(feed[2 + k]) as usize
+}
+
 // The check of the counts, and their sum.
 fn sum_counts(feed: &[u32]) -> Counts
     requires { ⌜ Counted (now feed) ⌝ }
@@ -140,7 +197,7 @@ fn sum_counts(feed: &[u32]) -> Counts
     let mut sum = 0;
     let mut k = 0;
     while k < n {
-        let count = word(feed, 2 + k);
+        let count = size_at(feed, k);
         if TABLE_PAIRS < count {
             return Counts::Over((2 + k) as u32);
         }
@@ -160,7 +217,7 @@ fn check_tables(feed: &[u32]) -> Answer
     let mut at = 2 + n;
     let mut k = 0;
     while k < n {
-        let count = word(feed, 2 + k);
+        let count = size_at(feed, k);
         let found = check_pairs(feed, k < classes, at, count);
         let Answer::Accepted = found else {
             return found;
@@ -209,12 +266,12 @@ fn table_span(feed: &[u32], k: usize) -> Span
     let mut start = 2 + table_count(feed);
     let mut j = 0;
     while j < k {
-        start += 2 * word(feed, 2 + j);
+        start += 2 * size_at(feed, j);
         j += 1;
     }
     Span {
         start,
-        count: word(feed, 2 + k),
+        count: size_at(feed, k),
     }
 }
 
@@ -232,4 +289,12 @@ pub fn label_table(feed: &[u32], k: usize) -> Span
     ensures { λ r. ⌜ SpanOf (now (feed .entry)) (labelTable (now (feed .entry)) k) r ⌝ }
 {
     table_span(feed, word(feed, 0) + k)
+}
+
+// Whether label k of a feed that was accepted is two-way.
+pub fn is_two_way(feed: &[u32], k: usize) -> bool
+    requires { ⌜ Among (now feed) (labelCount (now feed)) k ⌝ }
+    ensures { λ r. ⌜ r ≡ isTwoWay (now (feed .entry)) k ⌝ }
+{
+    is_marked(feed[2 + word(feed, 0) + k])
 }

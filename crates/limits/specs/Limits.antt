@@ -1,4 +1,4 @@
--- Limits: every ceiling of document 01, once for the definitions.
+-- Limits: every ceiling of document 01, and the mark of a two-way label, once for the definitions.
 --
 -- In order: of a feed; of a drawing; of an instruction list and its registers; of a sheet; all of them. Assumes nothing.
 use Prim.Native.Nat.{ℕ, _+_, _*_}
@@ -19,6 +19,10 @@ mostTablePairs = 4096
 
 abbrev pub largestObject : ℕ
 largestObject = 65535
+
+-- "its count word is raised by 32,768" (document 02, E1)
+abbrev pub twoWayMark : ℕ
+twoWayMark = 32768
 
 -- "with 1 to 12 nodes and 0 to 24 edges"; "the three ceilings (nodes, edges, picks 12)"
 abbrev pub mostNodes : ℕ
@@ -72,6 +76,7 @@ allLimits = record {
   tables = mostTables;
   entries = mostTablePairs;
   object = largestObject;
+  mark = twoWayMark;
   nodes = mostNodes;
   edges = mostEdges;
   picks = mostPicks;

@@ -1,4 +1,4 @@
-// Limits: every ceiling of document 01, once for the code. `specs/Limits.antt` has them once for the definitions; `all_limits` shows that the two agree.
+// Limits: every ceiling of document 01, and the mark of a two-way label, once for the code. `specs/Limits.antt` has them once for the definitions; `all_limits` shows that the two agree.
 
 ghost use mathlib.Core.Path.{_≡_};
 ghost use Rattle.limits.specs.Limits.{allLimits};
@@ -14,6 +14,9 @@ pub const TABLES: usize = CLASSES + LABELS;
 pub const TABLE_PAIRS: usize = 4096;
 
 pub const OBJECT: u32 = 65535;
+
+// By how much the count word of a two-way label is raised.
+pub const TWO_WAY: u32 = 32768;
 
 // The most nodes, edges and picked nodes of a drawing.
 pub const NODES: usize = 12;
@@ -53,6 +56,7 @@ pub struct Limits {
     pub tables: usize,
     pub entries: usize,
     pub object: u32,
+    pub mark: u32,
     pub nodes: usize,
     pub edges: usize,
     pub picks: usize,
@@ -78,6 +82,7 @@ pub fn all_limits() -> Limits
         tables: TABLES,
         entries: TABLE_PAIRS,
         object: OBJECT,
+        mark: TWO_WAY,
         nodes: NODES,
         edges: EDGES,
         picks: PICKS,

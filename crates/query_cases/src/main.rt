@@ -5,7 +5,16 @@ use answers::say;
 use drawing::Built;
 use drawing::Drawing;
 use drawing::check::check_drawing;
+use drawing::words::EDGE_WORDS;
+use drawing::words::HEAD_WORDS;
+use drawing::words::NODE_WORDS;
+use limits::EDGES;
+use limits::LIST_WORDS;
+use limits::NODES;
 use query::query;
+
+// The words of the largest drawing.
+const DRAWING_WORDS: usize = HEAD_WORDS + NODE_WORDS * NODES + EDGE_WORDS * EDGES;
 
 // Prints a text, then a number.
 fn print(text: &[u8], n: u32) {
@@ -50,7 +59,7 @@ fn show_line(name: &[u8], built: Built) {
 
 // The words of a drawing, and what its check says of them.
 fn show_check(name: &[u8], feed: &[u32], d: Drawing) {
-    let mut words = [0u32; 98];
+    let mut words = [0u32; DRAWING_WORDS];
     let n = d.write(&mut words);
     if words.len() < n {
         return;
@@ -62,12 +71,12 @@ fn show_check(name: &[u8], feed: &[u32], d: Drawing) {
 
 // The rows of a drawing, in the part that the query hands back of a slice of so many words.
 fn show_rows(name: &[u8], feed: &[u32], d: Drawing, rows: &mut [u32]) {
-    let mut words = [0u32; 98];
+    let mut words = [0u32; DRAWING_WORDS];
     let n = d.write(&mut words);
     if words.len() < n {
         return;
     }
-    let mut list = [0u32; 3072];
+    let mut list = [0u32; LIST_WORDS];
     let mut work = [0u32; 200];
     let mut number = 0;
     let mut place = 0;

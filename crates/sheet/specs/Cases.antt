@@ -1,4 +1,5 @@
--- Cases: sheets as text, each with the listing that document 01 fixes for it. Its own sheet is among the starred cases. Assumes nothing.
+-- Cases: sheets as text, each with the listing that document 01, or a request of document 02, fixes for it. Document 01's own sheet is among the
+-- starred cases. Assumes nothing.
 use mathlib.Core.List.{List, [], _∷_}
 use Prim.Native.String.{String}
 
@@ -26,6 +27,17 @@ sheets =
     ∷ case "class object\na 1\n\nlabel from to\n\nnode class pick\nx c 1\n" "refused 14 7\n"
     ∷ case "class object\na 1\n\nlabel from to\n\nnode class pick\nx a 1\nx a 0\n" "refused 14 8\n"
     ∷ case "class object\na 1\n\nlabel from to\n\nnode class pick\nx a 1\n\nedge source target\nl x x\n" "refused 14 10\n"
+    -- E1, "A label both with and without its star is 14": at the first line that parts from those before it, be it an edge's
+    ∷ case "class object\na 1\n\nlabel from to\nl* 1 1\nl 1 2\n" "refused 14 6\n"
+    ∷ case "class object\na 1\n\nlabel from to\nl 1 1\nl* 1 2\n" "refused 14 6\n"
+    ∷ case "class object\na 1\n\nlabel from to\nl* 1 1\n\nnode class pick\nx a 1\n\nedge source target\nl x x\n" "refused 14 11\n"
+    ∷ case "class object\na 1\n\nlabel from to\nl 1 1\n\nnode class pick\nx a 1\n\nedge source target\nl* x x\n" "refused 14 11\n"
+    -- twelve letters and a star; two stars; a star alone; a star on a class, on a node
+    ∷ case "class object\na 1\n\nlabel from to\nabcdefghijkl* 1 1\n\nnode class pick\nx a 1\n\nedge source target\nabcdefghijkl* x x\n" "x\n1\n"
+    ∷ case "class object\na 1\n\nlabel from to\nl** 1 1\n" "refused 14 5\n"
+    ∷ case "class object\na 1\n\nlabel from to\n* 1 1\n" "refused 14 5\n"
+    ∷ case "class object\na* 1\n" "refused 14 2\n"
+    ∷ case "class object\na 1\n\nlabel from to\n\nnode class pick\nx* a 1\n" "refused 14 7\n"
     -- what the derived feed and drawing refuse
     ∷ case "class object\na 2\na 1\n\nlabel from to\n\nnode class pick\nx a 1\n\nedge source target\n" "refused 3 5\n"
     ∷ case "class object\na 65536\n\nlabel from to\n\nnode class pick\nx a 1\n\nedge source target\n" "refused 3 3\n"

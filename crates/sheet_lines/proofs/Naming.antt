@@ -2,7 +2,7 @@
 --
 -- In order: whether a name is known; a name that fits; the names with one that fits. Assumes nothing.
 use mathlib.Core.Path.{_≡_, refl, _∙_, sym}
-use mathlib.Core.Bool.{Bool, true, false, _&&_, _||_, cond}
+use mathlib.Core.Bool.{Bool, true, false, _||_, cond}
 use mathlib.Core.List.{List, [], _∷_, _++_}
 use Prim.Native.Nat.{ℕ, suc, _+_, _<_, _≤_}
 use native.Mathlib.Omega.{arith}
@@ -10,10 +10,9 @@ use borrow.Author.Tests.{le-leb, leb-true}
 use lib.Dec.{leb, ltb}
 use lib.ListN.{length, length-append}
 use Rattle.limits.specs.Limits.{mostLabels}
-use Rattle.tables.proofs.Tests.{both-true}
 use Rattle.sheet_text.specs.declared.Span.{Span}
 use Rattle.sheet_text.specs.declared.Names.{Names}
-use Rattle.sheet_text.specs.Text.{isName, same, find, known}
+use Rattle.sheet_text.specs.Text.{same, find, known}
 use Rattle.sheet_text.specs.inner.Parts.{textAt, namesOf, withName, Spans}
 use Rattle.sheet_text.proofs.Spans.{length-names, names-longer, spans-longer}
 use Rattle.sheet_lines.specs.Reading.{numbered, fitsTable}
@@ -55,13 +54,9 @@ module _ {s : List ℕ} {x : Names} {ceiling : ℕ} (g : Spans s x ceiling) (c :
       or-false true = refl
       or-false false = refl
 
-  pub fits-is : (isName name && (ltb (x .n) ceiling || known name (namesOf s x))) ≡ fitsTable ceiling name (namesOf s x)
+  pub fits-is : (ltb (x .n) ceiling || known name (namesOf s x)) ≡ fitsTable ceiling name (namesOf s x)
   unfolding fitsTable numbered
-  fits-is = rw (fits-step (namesOf s x) (x .n) (length-names g c) (g .few) (known name (namesOf s x)))
-
-pub fits-name : (ceiling : ℕ) (name : List ℕ) (names : List (List ℕ)) → fitsTable ceiling name names ≡ true → isName name ≡ true
-unfolding fitsTable
-fits-name ceiling name names t = both-true (isName name) _ .0 t .0
+  fits-is = fits-step (namesOf s x) (x .n) (length-names g c) (g .few) (known name (namesOf s x))
 
 -- ---- the names with one that fits
 
@@ -73,7 +68,7 @@ module _ {s : List ℕ} {p : Span} {x : Names} {ceiling : ℕ} (g : Fitting s p 
   pub new-fits : known (textAt s p) (namesOf s x) ≡ false → x .n + 1 ≤ ceiling
   unfolding fitsTable numbered
   new-fits k =
-      let h = leb-true _ ceiling (rw k at (both-true (isName (textAt s p)) (leb (length (numbered (textAt s p) (namesOf s x))) ceiling) .0 (g .fits) .1)) in
+      let h = leb-true _ ceiling (rw k at (g .fits)) in
       let l = length-append (namesOf s x) (textAt s p ∷ []) in
       omega (arith, length-names (g .asked .spans) (g .asked .few))
 

@@ -32,9 +32,8 @@ use Rattle.sheet_text.proofs.Spans.{names-longer, spans-longer}
 use Rattle.sheet_lines.specs.declared.Tables.{Tables}
 use Rattle.sheet_lines.specs.declared.State.{State}
 use Rattle.sheet_lines.specs.declared.Step.{Step}
-use Rattle.sheet_lines.specs.Reading.{Reading, allow, turnTo, withClasses, withLabels, withNode as addNode, withEdge as addEdge, fitsTable, readClass, readLabel, readNode, readEdge, endSection, headers, readHeader}
-use Rattle.sheet_lines.specs.inner.State.{tablesRead, viewOf, Fine, Ready, stepBy, withDrawing, nodeStep, edgeStep, turned, endStep, Lined, ClassRead, LabelRead, OtherRead, LineRead}
-use Rattle.sheet_lines.proofs.Naming.{fits-name}
+use Rattle.sheet_lines.specs.Reading.{Reading, allow, turnTo, withClasses, withLabels, withNode as addNode, withEdge as addEdge, readClass, readLabel, readNode, readEdge, endSection, headers, readHeader}
+use Rattle.sheet_lines.specs.inner.State.{tablesRead, viewOf, isClassLine, isLabelLine, Fine, Ready, stepBy, withDrawing, nodeStep, edgeStep, turned, endStep, Lined, ClassRead, LabelRead, OtherRead, LineRead}
 use Rattle.sheet_lines.proofs.Tests.{class-tested, label-tested, node-tested, edge-tested, class-passed, label-passed, header-tested}
 use Rattle.sheet_lines.proofs.State.{the-type}
 
@@ -70,7 +69,7 @@ module _ {s : List ℕ} {line : Span} {x : State} (g : Ready s line x) {f : Fiel
   third = textAt s (f .third)
 
   module _ {ws ws′ : List ℕ} where
-    pub class-read : {u : ℕ} {t : Tables} → (eqb (f .count) 2 && fitsTable mostClasses first (namesOf s (x .classes .names)) && isNumber second) ≡ true →
+    pub class-read : {u : ℕ} {t : Tables} → isClassLine s f (namesOf s (x .classes .names)) ≡ true →
         u ≡ valueOf second → Lined s first mostClasses (pair u u) ws ws′ (x .classes) t →
         ClassRead s ws ws′ line x
         (record { read = true; state = record { section = x .section; opened = x .opened; classes = t; labels = x .labels; nodes = x .nodes; drawing = x .drawing } })
@@ -79,8 +78,8 @@ module _ {s : List ℕ} {line : Span} {x : State} (g : Ready s line x) {f : Fiel
     class-read test value l =
         let h = g .fine in
         let p = class-passed w _ test in
-        let n = some-name (w .within .first) (fits-name mostClasses first _ (p .1)) in
-        let o = some-number (w .within .second) (p .2) in
+        let n = some-name (w .within .first) (p .1) in
+        let o = some-number (w .within .second) (p .3) in
         record {
           answer = λ vs. rw (l .tables, value) (class-tested w (viewOf s ws vs x) true test);
           fine = record {
@@ -94,7 +93,7 @@ module _ {s : List ℕ} {line : Span} {x : State} (g : Ready s line x) {f : Fiel
           size = l .size;
         }
 
-    pub label-read : {p q : ℕ} {t : Tables} → (eqb (f .count) 3 && fitsTable mostLabels first (namesOf s (x .labels .names)) && isNumber second && isNumber third) ≡ true →
+    pub label-read : {p q : ℕ} {t : Tables} → isLabelLine s f (namesOf s (x .labels .names)) ≡ true →
         p ≡ valueOf second → q ≡ valueOf third → Lined s first mostLabels (pair p q) ws ws′ (x .labels) t →
         LabelRead s ws ws′ line x
         (record { read = true; state = record { section = x .section; opened = x .opened; classes = x .classes; labels = t; nodes = x .nodes; drawing = x .drawing } })
@@ -117,12 +116,12 @@ module _ {s : List ℕ} {line : Span} {x : State} (g : Ready s line x) {f : Fiel
           size = l .size;
         }
 
-  pub class-refused : {ws : List ℕ} → (eqb (f .count) 2 && fitsTable mostClasses first (namesOf s (x .classes .names)) && isNumber second) ≡ false →
+  pub class-refused : {ws : List ℕ} → isClassLine s f (namesOf s (x .classes .names)) ≡ false →
       ClassRead s ws ws line x (record { read = false; state = x }) (λ v. readClass v (fields (textAt s line)))
   unfolding viewOf allow tablesRead
   class-refused {ws} test = record { answer = λ vs. class-tested w (viewOf s ws vs x) false test; fine = after-line g; size = refl }
 
-  pub label-refused : {ws : List ℕ} → (eqb (f .count) 3 && fitsTable mostLabels first (namesOf s (x .labels .names)) && isNumber second && isNumber third) ≡ false →
+  pub label-refused : {ws : List ℕ} → isLabelLine s f (namesOf s (x .labels .names)) ≡ false →
       LabelRead s ws ws line x (record { read = false; state = x }) (λ v. readLabel v (fields (textAt s line)))
   unfolding viewOf allow tablesRead
   label-refused {ws} test = record { answer = λ vs. label-tested w (viewOf s vs ws x) false test; fine = after-line g; size = refl }

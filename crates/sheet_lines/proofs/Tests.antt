@@ -22,6 +22,7 @@ use Rattle.sheet_text.specs.inner.Parts.{textAt, Two, Three, Fielded}
 use Rattle.sheet_text.proofs.Parts.{wrong-count}
 use Rattle.sheet_lines.specs.Reading.{Reading, allow, turnTo, withClasses, withLabels, withNode, withEdge, withLine, fitsTable}
 use Rattle.sheet_lines.specs.Reading.{readClass, readLabel, readNode, readEdge, readValues, endSection, readOpened, headers, readHeader, byStage, readLine}
+use Rattle.sheet_lines.specs.inner.State.{isClassLine, isLabelLine}
 
 -- ---- another number of fields
 
@@ -73,14 +74,14 @@ module _ {s : List ℕ} {line : Span} {f : Fields} (g : Fielded s line f) where
   third = textAt s (f .third)
 
   module _ (v : Reading) (b : Bool) where
-    pub class-tested : (eqb (f .count) 2 && fitsTable mostClasses first (v .classes .names) && isNumber second) ≡ b →
+    pub class-tested : isClassLine s f (v .classes .names) ≡ b →
         allow b (withClasses (withLine first (pair (valueOf second) (valueOf second)) (v .classes)) v) ≡ readClass v (fields (textAt s line))
     unfolding readClass allow
     class-tested t = decide (eqb (f .count) 2)
         (λ e. let u = rw e at t in rw (g .two (eqb-true (f .count) 2 e) .shown, u))
         (λ e. let u = rw e at t in rw (← u) (class-fields v (fields (textAt s line)) (other-count 2 (omega arith) e)))
 
-    pub label-tested : (eqb (f .count) 3 && fitsTable mostLabels first (v .labels .names) && isNumber second && isNumber third) ≡ b →
+    pub label-tested : isLabelLine s f (v .labels .names) ≡ b →
         allow b (withLabels (withLine first (pair (valueOf second) (valueOf third)) (v .labels)) v) ≡ readLabel v (fields (textAt s line))
     unfolding readLabel allow
     label-tested t = decide (eqb (f .count) 3)
@@ -103,13 +104,13 @@ module _ {s : List ℕ} {line : Span} {f : Fields} (g : Fielded s line f) where
 
   -- ---- where the test is passed
 
-  pub class-passed : (names : List (List ℕ)) → (eqb (f .count) 2 && fitsTable mostClasses first names && isNumber second) ≡ true →
-      Two s line f × (fitsTable mostClasses first names ≡ true) × (isNumber second ≡ true)
-  class-passed names t = let p = simp both-true at t in (g .two (eqb-true (f .count) 2 (p .0 .0)), p .0 .1, p .1)
+  pub class-passed : (names : List (List ℕ)) → isClassLine s f names ≡ true →
+      Two s line f × (isName first ≡ true) × (fitsTable mostClasses first names ≡ true) × (isNumber second ≡ true)
+  class-passed names t = let p = simp both-true at t in (g .two (eqb-true (f .count) 2 (p .0 .0 .0)), p .0 .0 .1, p .0 .1, p .1)
 
-  pub label-passed : (names : List (List ℕ)) → (eqb (f .count) 3 && fitsTable mostLabels first names && isNumber second && isNumber third) ≡ true →
+  pub label-passed : (names : List (List ℕ)) → isLabelLine s f names ≡ true →
       Three s line f × (fitsTable mostLabels first names ≡ true) × (isNumber second ≡ true) × (isNumber third ≡ true)
-  label-passed names t = let p = simp both-true at t in (g .three (eqb-true (f .count) 3 (p .0 .0 .0)), p .0 .0 .1, p .0 .1, p .1)
+  label-passed names t = let p = simp both-true at t in (g .three (eqb-true (f .count) 3 (p .0 .0 .0 .0 .0)), p .0 .0 .1, p .0 .1, p .1)
 
   pub node-passed : (nodes classes : List (List ℕ)) → (eqb (f .count) 3 && isName first && not (known first nodes) && known second classes && isNumber third) ≡ true → isNumber third ≡ true
   node-passed nodes classes t = (simp both-true at t) .1

@@ -1,4 +1,4 @@
--- Reading: what has been read of a sheet, and what one line adds to it (document 01, 'The sheet').
+-- Reading: what has been read of a sheet, and what one line adds to it (document 01, 'The sheet'; document 02, E1, for the star of a label).
 --
 -- In order: what has been read; the four kinds of lines; any line. Assumes nothing.
 use Prim.Native.Nat.{ℕ, _+_}
@@ -13,7 +13,7 @@ use Rattle.tables.specs.declared.Pair.{Pair}
 use Rattle.drawing.specs.declared.Node.{Node}
 use Rattle.drawing.specs.declared.Edge.{Edge}
 use Rattle.drawing.specs.Drawing.{Pattern, node, edge}
-use Rattle.sheet_text.specs.Text.{bytes, fields, isName, isNumber, valueOf, same, find, known}
+use Rattle.sheet_text.specs.Text.{bytes, fields, isName, isNumber, valueOf, same, find, known, isLabelName, clashes}
 
 -- ---- what has been read
 
@@ -73,21 +73,25 @@ withLine name p t = record { names = numbered name (t .names); lines = t .lines 
 
 -- "a line past 32 classes, 64 labels"
 unfoldable pub fitsTable : ℕ → List ℕ → List (List ℕ) → Bool
-fitsTable ceiling name names = isName name && leb (length (numbered name names)) ceiling
+fitsTable ceiling name names = leb (length (numbered name names)) ceiling
 
 -- `class object`
 unfoldable pub readClass : Reading → List (List ℕ) → Option Reading
 readClass r [] = none
 readClass r (c ∷ []) = none
-readClass r (c ∷ o ∷ []) = allow (fitsTable mostClasses c (r .classes .names) && isNumber o) (withClasses (withLine c (pair (valueOf o) (valueOf o)) (r .classes)) r)
+readClass r (c ∷ o ∷ []) =
+    allow (isName c && fitsTable mostClasses c (r .classes .names) && isNumber o)
+    (withClasses (withLine c (pair (valueOf o) (valueOf o)) (r .classes)) r)
 readClass r (c ∷ o ∷ x ∷ xs) = none
 
--- `label from to`
+-- `label from to`: "a star follows its name on every line"; "A label both with and without its star is 14"
 unfoldable pub readLabel : Reading → List (List ℕ) → Option Reading
 readLabel r [] = none
 readLabel r (l ∷ []) = none
 readLabel r (l ∷ u ∷ []) = none
-readLabel r (l ∷ u ∷ v ∷ []) = allow (fitsTable mostLabels l (r .labels .names) && isNumber u && isNumber v) (withLabels (withLine l (pair (valueOf u) (valueOf v)) (r .labels)) r)
+readLabel r (l ∷ u ∷ v ∷ []) =
+    allow (isLabelName l && not (clashes l (r .labels .names)) && fitsTable mostLabels l (r .labels .names) && isNumber u && isNumber v)
+    (withLabels (withLine l (pair (valueOf u) (valueOf v)) (r .labels)) r)
 readLabel r (l ∷ u ∷ v ∷ x ∷ xs) = none
 
 -- `node class pick`: "an unknown or doubled node name, an unknown class ..., or a line past ... 12 nodes"
@@ -100,7 +104,7 @@ readNode r (n ∷ c ∷ k ∷ []) =
     (withNode n (node (find c (r .classes .names)) (valueOf k)) r)
 readNode r (n ∷ c ∷ k ∷ x ∷ xs) = none
 
--- `edge source target`
+-- `edge source target`: "... and in each edge that uses it": a label is known with its star, or without, as on its lines
 unfoldable pub readEdge : Reading → List (List ℕ) → Option Reading
 readEdge r [] = none
 readEdge r (l ∷ []) = none

@@ -8,8 +8,10 @@ use limits::SHEET_BYTES;
 use sheet_text::Fields;
 use sheet_text::Names;
 use sheet_text::Span;
+use sheet_text::clashes;
 use sheet_text::fields_of;
 use sheet_text::find_name;
+use sheet_text::is_label_name;
 use sheet_text::is_name;
 use sheet_text::is_number;
 use sheet_text::same_text;
@@ -28,7 +30,7 @@ ghost use Rattle.drawing.specs.Builder.{withNode, withEdge};
 ghost use Rattle.sheet_text.specs.Text.{fields, isName, isNumber, same, known};
 ghost use Rattle.sheet_text.specs.inner.Parts.{textAt, namesOf, Sought};
 ghost use Rattle.sheet_lines.specs.Reading.{fitsTable, readClass, readLabel, readNode, readEdge, readValues, headers, readHeader, readLine};
-ghost use Rattle.sheet_lines.specs.inner.State.{putLine, Asked, Fitting, Searchable, Ready, Numbered, Lined, nodeStep, edgeStep, endStep, LineRead, ClassRead, LabelRead, OtherRead, Linable, Tabled, Headed, ReadyIn, ReadyFor};
+ghost use Rattle.sheet_lines.specs.inner.State.{putLine, isClassLine, isLabelLine, Asked, Fitting, Searchable, Ready, Numbered, Lined, nodeStep, edgeStep, endStep, LineRead, ClassRead, LabelRead, OtherRead, Linable, Tabled, Headed, ReadyIn, ReadyFor};
 
 // The words that a slice must have which holds the lines of the classes, or of the labels: three a line, and a line has at least four bytes.
 pub const LINE_WORDS: usize = 3 * (SHEET_BYTES / 4);
@@ -66,12 +68,12 @@ fn knows(s: &[u8], p: Span, names: Names) -> bool
     find_name(s, p, names) < names.n
 }
 
-// Whether a part is a name which is known, or for which there is room.
+// Whether a name is known, or there is room for it.
 fn fits(s: &[u8], p: Span, names: Names, ceiling: usize) -> bool
     requires { ⌜ Asked (now s) p names ceiling ⌝ }
     ensures { λ r. ⌜ r ≡ fitsTable ceiling (textAt (now (s .entry)) p) (namesOf (now (s .entry)) names) ⌝ }
 {
-    is_name(s, p) & ((names.n < ceiling) | knows(s, p, names))
+    (names.n < ceiling) | knows(s, p, names)
 }
 
 // The names, and this one where it is new.
@@ -124,9 +126,12 @@ fn with_line(
 // Whether fields make a class line.
 fn is_class(s: &[u8], f: Fields, classes: Names) -> bool
     requires { ⌜ Tabled (now s) f classes mostClasses ⌝ }
-    ensures { λ r. ⌜ r ≡ (eqb (f .count) 2 && fitsTable mostClasses (textAt (now (s .entry)) (f .first)) (namesOf (now (s .entry)) classes) && isNumber (textAt (now (s .entry)) (f .second))) ⌝ }
+    ensures { λ r. ⌜ r ≡ isClassLine (now (s .entry)) f (namesOf (now (s .entry)) classes) ⌝ }
 {
-    (f.count == 2) & fits(s, f.first, classes, CLASSES) & is_number(s, f.second)
+    (f.count == 2)
+        & is_name(s, f.first)
+        & fits(s, f.first, classes, CLASSES)
+        & is_number(s, f.second)
 }
 
 // A class line.
@@ -154,9 +159,11 @@ fn class_line(rows: &mut [u32], s: &[u8], line: Span, x: State) -> Step
 // Whether fields make a label line.
 fn is_label(s: &[u8], f: Fields, labels: Names) -> bool
     requires { ⌜ Tabled (now s) f labels mostLabels ⌝ }
-    ensures { λ r. ⌜ r ≡ (eqb (f .count) 3 && fitsTable mostLabels (textAt (now (s .entry)) (f .first)) (namesOf (now (s .entry)) labels) && isNumber (textAt (now (s .entry)) (f .second)) && isNumber (textAt (now (s .entry)) (f .third))) ⌝ }
+    ensures { λ r. ⌜ r ≡ isLabelLine (now (s .entry)) f (namesOf (now (s .entry)) labels) ⌝ }
 {
     (f.count == 3)
+        & is_label_name(s, f.first)
+        & !clashes(s, f.first, labels)
         & fits(s, f.first, labels, LABELS)
         & is_number(s, f.second)
         & is_number(s, f.third)

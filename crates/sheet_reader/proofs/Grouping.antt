@@ -1,18 +1,24 @@
--- Grouping: the lines of a table among the lines of all, from a line on, and the tables from a number on.
+-- Grouping: the lines of a table among the lines of all, from a line on, the tables from a number on, and the labels.
 --
--- In order: the lines from one on; those of a table; the numbers from one on; the tables from one on. Assumes nothing.
+-- In order: the lines from one on; those of a table; the tables from one on; the labels from one on. Assumes nothing.
 use mathlib.Core.Path.{_≡_, _∙_}
 use mathlib.Core.List.{List, [], _∷_, map}
 use Prim.Native.Nat.{ℕ, suc, _+_, _*_, _-_, _<_, _≤_}
 use native.Mathlib.Omega.{arith}
 use borrow.Author.Tests.{eq-eqb, ne-eqb}
 use lib.ListN.{length, getD, take, drop}
-use Rattle.tables.specs.Lists.{keep, count, below}
+use Rattle.tables.specs.Lists.{keep, count, below, placed}
+use Rattle.limits.specs.Limits.{mostLabels}
 use Rattle.tables.specs.Order.{Table, pair}
+use Rattle.feed.specs.Feed.{Label}
 use Rattle.drawing.proofs.Encoding.{left-next}
+use Rattle.sheet_text.specs.inner.Parts.{span, textAt, Spans}
+use Rattle.sheet_text.proofs.Spans.{namesFrom, names-all, names-more, names-done}
+use Rattle.sheet_lines.specs.declared.Tables.{Tables}
 use Rattle.sheet_lines.specs.Reading.{Entry}
-use Rattle.sheet_lines.specs.inner.State.{entry, entriesOf, entries}
-use Rattle.sheet_reader.specs.Sheet.{linesOf, grouped}
+use Rattle.sheet_lines.specs.inner.State.{entry, entriesOf, entries, tablesRead}
+use Rattle.sheet_reader.specs.Sheet.{linesOf, grouped, labelOf, labelsOf}
+use Rattle.sheet_reader.specs.inner.Answers.{labelsIn}
 
 -- ---- the lines from one on
 
@@ -91,3 +97,22 @@ module _ (es : List Entry) (n : ℕ) where
   pub tables-done : (k : ℕ) → n ≤ k → tablesFrom es n k ≡ []
   unfolding tablesFrom count
   tables-done k h = let z : n - k ≡ 0 = omega arith in rw z
+
+-- ---- the labels from one on
+
+pub labelsFrom : List ℕ → List ℕ → Tables → ℕ → List Label
+labelsFrom s ws t k = placed (labelOf (entries ws (t .lines))) k (namesFrom s (t .names) k)
+
+module _ (s ws : List ℕ) (t : Tables) where
+  pub labels-all : labelsFrom s ws t 0 ≡ labelsIn s ws t
+  unfolding labelsFrom labelsIn labelsOf tablesRead
+  labels-all = rw (names-all s (t .names))
+
+  pub labels-more : (k : ℕ) → Spans s (t .names) mostLabels → k < t .names .n →
+      labelsFrom s ws t k ≡ labelOf (entries ws (t .lines)) k (textAt s (getD (t .names .spans) k (span 0 0))) ∷ labelsFrom s ws t (k + 1)
+  unfolding labelsFrom placed
+  labels-more k g h = rw (names-more {i = k} g h)
+
+  pub labels-done : (k : ℕ) → k ≡ t .names .n → labelsFrom s ws t k ≡ []
+  unfolding labelsFrom placed
+  labels-done k e = rw (names-done s (t .names) k e)

@@ -21,7 +21,7 @@ use Rattle.sheet_lines.specs.Reading.{nothing}
 use Rattle.sheet_lines.specs.inner.State.{tablesRead, viewOf, Fine}
 use Rattle.sheet_reader.specs.Sheet.{breach, readLines, readSheet, tablesOf, feedOf}
 use Rattle.sheet_reader.specs.declared.Scan.{Scan}
-use Rattle.sheet_reader.specs.inner.Answers.{Scanned, tablesIn, Feedable, Given}
+use Rattle.sheet_reader.specs.inner.Answers.{Scanned, tablesIn, labelsIn, Feedable, Given}
 use Rattle.sheet_reader.proofs.Sizes.{feed-size}
 
 pub sheet-long : (s : List ℕ) → mostBytes < length s → readSheet s ≡ breach 0
@@ -32,19 +32,19 @@ pub sheet-short : (s : List ℕ) → length s ≤ mostBytes → readSheet s ≡ 
 unfolding readSheet
 sheet-short s h = rw (le-leb (length s) mostBytes h)
 
-feed-shown : {s : List ℕ} {at : ℕ} {x : State} → Fine s at x → (ws vs : List ℕ) → feedWords (tablesIn ws (x .classes)) (tablesIn vs (x .labels)) ≡ feedOf (viewOf s ws vs x)
-unfolding feedOf tablesIn viewOf tablesRead tablesOf
-feed-shown f ws vs = rw (length-names (f .classes) (omega arith), length-names (f .labels) (omega arith))
+feed-shown : {s : List ℕ} {at : ℕ} {x : State} → Fine s at x → (ws vs : List ℕ) → feedWords (tablesIn ws (x .classes)) (labelsIn s vs (x .labels)) ≡ feedOf (viewOf s ws vs x)
+unfolding feedOf tablesIn labelsIn viewOf tablesRead tablesOf
+feed-shown f ws vs = rw (length-names (f .classes) (omega arith))
 
 module _ {s ws vs : List ℕ} {r : Scan} (g : Scanned s ws vs r) where
-  pub sheet-given : {feed feed′ : List ℕ} {n : ℕ} → verdictOf (r .answer) ≡ accepted → Feedable feed ws vs (r .state .classes) (r .state .labels) →
-      Put feed feed′ 0 (feedWords (tablesIn ws (r .state .classes)) (tablesIn vs (r .state .labels))) n →
+  pub sheet-given : {feed feed′ : List ℕ} {n : ℕ} → verdictOf (r .answer) ≡ accepted → Feedable feed s ws vs (r .state .classes) (r .state .labels) →
+      Put feed feed′ 0 (feedWords (tablesIn ws (r .state .classes)) (labelsIn s vs (r .state .labels))) n →
       Given s feed′ (record { answer = r .answer; feed = n; nodes = r .state .nodes; drawing = r .state .drawing })
   unfolding viewOf
   sheet-given {n = n} ok f p =
       let size = feed-size f in
       let front = put-front p (omega (arith, f .room)) in
-      let count : n ≡ length (feedWords (tablesIn ws (r .state .classes)) (tablesIn vs (r .state .labels))) = omega (arith, p .next) in
+      let count : n ≡ length (feedWords (tablesIn ws (r .state .classes)) (labelsIn s vs (r .state .labels))) = omega (arith, p .next) in
       record {
         reading = viewOf s ws vs (r .state);
         outcome = g .shown ok;

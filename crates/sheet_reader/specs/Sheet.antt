@@ -1,4 +1,4 @@
--- Sheet: what a sheet gives, or 14 with its line (document 01, 'The sheet').
+-- Sheet: what a sheet gives, or 14 with its line (document 01, 'The sheet'; document 02, E1, for labels that are two-way).
 --
 -- In order: all lines; the words of the feed. Assumes nothing.
 use Prim.Native.Nat.{ℕ, _+_}
@@ -8,10 +8,10 @@ use mathlib.Core.Option.{Option, none, some}
 use lib.Dec.{eqb, leb}
 use lib.ListN.{length}
 use Rattle.limits.specs.Limits.{mostBytes}
-use Rattle.tables.specs.Lists.{keep, below}
+use Rattle.tables.specs.Lists.{keep, below, placed}
 use Rattle.tables.specs.Order.{Table}
-use Rattle.feed.specs.Feed.{feedWords}
-use Rattle.sheet_text.specs.Text.{split}
+use Rattle.feed.specs.Feed.{Label, feedWords}
+use Rattle.sheet_text.specs.Text.{split, isStarred}
 use Rattle.sheet_lines.specs.Reading.{Entry, Named, Reading, nothing, readLine}
 
 -- ---- all lines
@@ -58,5 +58,12 @@ grouped lines n = map (λ k. linesOf k lines) (below n)
 unfoldable pub tablesOf : Named → List Table
 tablesOf t = grouped (t .lines) (length (t .names))
 
+-- "A label may now be two-way: ... in the sheet a star follows its name": label k, by its name
+unfoldable pub labelOf : List Entry → ℕ → List ℕ → Label
+labelOf lines k name = record { twoWay = isStarred name; pairs = linesOf k lines }
+
+unfoldable pub labelsOf : Named → List Label
+labelsOf t = placed (labelOf (t .lines)) 0 (t .names)
+
 unfoldable pub feedOf : Reading → List ℕ
-feedOf r = feedWords (tablesOf (r .classes)) (tablesOf (r .labels))
+feedOf r = feedWords (tablesOf (r .classes)) (labelsOf (r .labels))

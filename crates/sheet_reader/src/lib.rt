@@ -3,6 +3,7 @@
 use answers::Answer;
 use answers::accepts;
 use drawing::Drawing;
+use feed::count_word;
 use limits::SHEET_BYTES;
 use limits::TABLES;
 use sheet_lines::LINE_WORDS;
@@ -12,6 +13,7 @@ use sheet_lines::read_line;
 use sheet_text::Names;
 use sheet_text::Span;
 use sheet_text::cut;
+use sheet_text::is_starred;
 use sheet_text::no_names;
 use tables::words::put_two;
 use tables::words::put_word;
@@ -21,10 +23,11 @@ ghost use Prim.Native.Nat.{_+_};
 ghost use lib.ListN.{length};
 ghost use Rattle.tables.specs.Slices.{tableWords, tablesWords};
 ghost use Rattle.tables.specs.inner.Words.{Put};
-ghost use Rattle.feed.specs.Feed.{feedWords};
+ghost use Rattle.feed.specs.Feed.{labelWord, feedWords};
+ghost use Rattle.sheet_text.specs.inner.Parts.{textAt};
 ghost use Rattle.sheet_lines.specs.inner.State.{entries, Held};
-ghost use Rattle.sheet_reader.specs.Sheet.{linesOf};
-ghost use Rattle.sheet_reader.specs.inner.Answers.{noState, Scanned, tablesIn, Lines, Writable, Feedable, Lent, Answers, TableFits};
+ghost use Rattle.sheet_reader.specs.Sheet.{linesOf, labelOf};
+ghost use Rattle.sheet_reader.specs.inner.Answers.{noState, Scanned, tablesIn, labelsIn, Lines, LabelIn, Writable, LabelsFit, Feedable, Lent, Answers, TableFits};
 
 // The most words of a feed that comes from a sheet: two, the counts of all tables, and two for each line.
 pub const FEED_WORDS: usize = 2 + TABLES + 2 * (LINE_WORDS / 3);
@@ -128,7 +131,7 @@ fn count_lines(rows: &[u32], lines: usize, k: u32) -> u32
     n
 }
 
-// Writes how many lines each of the tables has.
+// Writes how many lines each of the classes has.
 fn put_counts(words: &mut [u32], at: usize, rows: &[u32], t: Tables) -> usize
     requires { ⌜ Writable (now words) at (now rows) t (map length (tablesIn (now rows) t)) ⌝ }
     ensures { λ r. ⌜ Put (now (words .entry)) (now (words .exit)) at (map length (tablesIn (now (rows .entry)) t)) r ⌝ }
@@ -137,6 +140,31 @@ fn put_counts(words: &mut [u32], at: usize, rows: &[u32], t: Tables) -> usize
     let mut k = 0;
     while k < t.names.n {
         let n = count_lines(rows, t.lines, k as u32);
+        out = put_word(words, out, n);
+        k += 1;
+    }
+    out
+}
+
+// The count word of label k, by its name.
+fn label_word(s: &[u8], name: Span, rows: &[u32], lines: usize, k: u32) -> u32
+    requires { ⌜ LabelIn (now s) name (now rows) lines ⌝ }
+    ensures { λ r. ⌜ r ≡ labelWord (labelOf (entries (now (rows .entry)) lines) k (textAt (now (s .entry)) name)) ⌝ }
+{
+    let n = count_lines(rows, lines, k);
+    count_word(n, is_starred(s, name))
+}
+
+// Writes the count word of each of the labels.
+fn put_label_counts(words: &mut [u32], at: usize, s: &[u8], rows: &[u32], t: Tables) -> usize
+    requires { ⌜ LabelsFit (now words) at (now s) (now rows) t ⌝ }
+    ensures { λ r. ⌜ Put (now (words .entry)) (now (words .exit)) at (map labelWord (labelsIn (now (s .entry)) (now (rows .entry)) t)) r ⌝ }
+{
+    let mut out = at;
+    let mut k = 0;
+    while k < t.names.n {
+        let names = t.names;
+        let n = label_word(s, names.spans[k], rows, t.lines, k as u32);
         out = put_word(words, out, n);
         k += 1;
     }
@@ -175,13 +203,20 @@ fn put_tables(words: &mut [u32], at: usize, rows: &[u32], t: Tables) -> usize
 }
 
 // Writes the feed of these classes and labels, and gives its length.
-fn put_feed(words: &mut [u32], classes: &[u32], labels: &[u32], c: Tables, l: Tables) -> usize
-    requires { ⌜ Feedable (now words) (now classes) (now labels) c l ⌝ }
-    ensures { λ r. ⌜ Put (now (words .entry)) (now (words .exit)) 0 (feedWords (tablesIn (now (classes .entry)) c) (tablesIn (now (labels .entry)) l)) r ⌝ }
+fn put_feed(
+    words: &mut [u32],
+    s: &[u8],
+    classes: &[u32],
+    labels: &[u32],
+    c: Tables,
+    l: Tables,
+) -> usize
+    requires { ⌜ Feedable (now words) (now s) (now classes) (now labels) c l ⌝ }
+    ensures { λ r. ⌜ Put (now (words .entry)) (now (words .exit)) 0 (feedWords (tablesIn (now (classes .entry)) c) (labelsIn (now (s .entry)) (now (labels .entry)) l)) r ⌝ }
 {
     let head = put_two(words, 0, c.names.n as u32, l.names.n as u32);
     let first = put_counts(words, head, classes, c);
-    let second = put_counts(words, first, labels, l);
+    let second = put_label_counts(words, first, s, labels, l);
     let third = put_tables(words, second, classes, c);
     put_tables(words, third, labels, l)
 }
@@ -199,7 +234,7 @@ pub fn read_sheet(feed: &mut [u32], classes: &mut [u32], labels: &mut [u32], s: 
     let nodes = x.nodes;
     let drawing = x.drawing;
     if accepts(answer) {
-        let n = put_feed(feed, classes, labels, x.classes, x.labels);
+        let n = put_feed(feed, s, classes, labels, x.classes, x.labels);
         return SheetRead {
             answer,
             feed: n,

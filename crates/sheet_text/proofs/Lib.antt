@@ -1,3 +1,4 @@
 pub mod Parts
 pub mod Words
 pub mod Spans
+pub mod Stars

@@ -1,6 +1,6 @@
 -- Spans: names that are parts of a slice, by number.
 --
--- In order: how many; the search for one; no names; one name more. Assumes nothing.
+-- In order: how many; the names from one on; the search for one; no names; one name more. Assumes nothing.
 use mathlib.Core.Path.{_≡_, refl, ap, _∙_}
 use mathlib.Core.Bool.{true, false}
 use mathlib.Core.List.{List, [], _∷_, _++_, map, map-append}
@@ -23,40 +23,48 @@ length-names {s} {x} g m = length-map (take (x .n) (x .spans)) (textAt s) ∙ le
 pub spans-wider : {s : List ℕ} {x : Names} {m n : ℕ} → Spans s x m → m ≤ n → Spans s x n
 spans-wider g h = record { size = g .size; few = omega (arith, g .few); inside = g .inside }
 
--- ---- the search for one
+-- ---- the names from number i on
 
--- the names from number i on
 pub namesFrom : List ℕ → Names → ℕ → List (List ℕ)
 namesFrom s x i = map (textAt s) (slice i (x .n) (x .spans))
+
+pub names-all : (s : List ℕ) (x : Names) → namesFrom s x 0 ≡ namesOf s x
+unfolding namesFrom namesOf
+names-all s x = refl
+
+pub names-more : {s : List ℕ} {x : Names} {i : ℕ} → Spans s x mostLabels → i < x .n → namesFrom s x i ≡ textAt s (getD (x .spans) i (span 0 0)) ∷ namesFrom s x (i + 1)
+unfolding namesFrom
+names-more {s} {x} {i} g h =
+    let l : x .n ≤ length (x .spans) = omega (arith, g .size, g .few) in
+    rw add-one (ap (map (textAt s)) (slice-cons i (x .n) (x .spans) (span 0 0) h l))
+
+pub names-done : (s : List ℕ) (x : Names) (i : ℕ) → i ≡ x .n → namesFrom s x i ≡ []
+unfolding namesFrom
+names-done s x i e = rw (e, slice-empty (x .n) (x .spans))
+
+-- ---- the search for one
 
 pub record Finding (s : List ℕ) (name : List ℕ) (x : Names) (i : ℕ) : Type 0 where
   pub upTo : i ≤ x .n
   pub left : i + find name (namesFrom s x i) ≡ find name (namesOf s x)
 
 pub find-starts : (s name : List ℕ) (x : Names) → Finding s name x 0
-unfolding namesFrom namesOf
-find-starts s name x = record { upTo = omega arith; left = omega arith }
+find-starts s name x = record { upTo = omega arith; left = rw (names-all s x) (omega arith) }
 
 module _ {s name : List ℕ} {x : Names} {i : ℕ} (c : Finding s name x i) (g : Spans s x mostLabels) where
-  names-more : i < x .n → namesFrom s x i ≡ textAt s (getD (x .spans) i (span 0 0)) ∷ namesFrom s x (i + 1)
-  unfolding namesFrom
-  names-more h =
-      let l : x .n ≤ length (x .spans) = omega (arith, g .size, g .few) in
-      rw add-one (ap (map (textAt s)) (slice-cons i (x .n) (x .spans) (span 0 0) h l))
-
   pub find-stops : i < x .n → same name (textAt s (getD (x .spans) i (span 0 0))) ≡ true → i ≡ find name (namesOf s x)
   unfolding find
-  find-stops h t = let l = rw (names-more h, t) at (c .left) in omega arith
+  find-stops h t = let l = rw (names-more g h, t) at (c .left) in omega arith
 
   pub find-goes-on : i < x .n → same name (textAt s (getD (x .spans) i (span 0 0))) ≡ false → Finding s name x (i + 1)
   unfolding find
-  find-goes-on h t = let l = rw (names-more h, t) at (c .left) in record { upTo = omega arith; left = omega arith }
+  find-goes-on h t = let l = rw (names-more g h, t) at (c .left) in record { upTo = omega arith; left = omega arith }
 
   pub find-ends : x .n ≤ i → x .n ≡ find name (namesOf s x)
-  unfolding find namesFrom
+  unfolding find
   find-ends h =
       let z : i ≡ x .n = omega (arith, c .upTo) in
-      let l = rw (z, slice-empty (x .n) (x .spans)) at (c .left) in
+      let l = rw (names-done s x i z) at (c .left) in
       omega arith
 
 -- ---- no names

@@ -1,15 +1,16 @@
--- Text: bytes, lines and fields, names and numbers (document 01, 'The sheet').
+-- Text: bytes, lines and fields, names and numbers (document 01, 'The sheet'; document 02, E1, for the star).
 --
--- In order: bytes of a quoted text; parts between separators; names; numbers, read and written; equality and look-up of names. Assumes nothing.
+-- In order: bytes of a quoted text; parts between separators; names; numbers, read and written; equality and look-up of names; names of labels,
+-- with a star or without. Assumes nothing.
 use Prim.Native.Nat.{ℕ, zero, suc, _+_, _*_, _-_, _/_, _%_}
 use Prim.Native.Char.{code}
 use Prim.Native.String.{String}
 use mathlib.Core.Bool.{Bool, true, false, _&&_, not, cond}
 use mathlib.Core.List.{List, [], _∷_}
 use lib.Dec.{eqb, leb, ltb}
-use lib.ListN.{length}
+use lib.ListN.{length, getD, take}
 use Rattle.limits.specs.Limits.{mostDigits, mostLetters}
-use Rattle.tables.specs.Lists.{all}
+use Rattle.tables.specs.Lists.{all, any}
 
 unfoldable pub bytes : String → List ℕ
 bytes String.[] = []
@@ -83,3 +84,25 @@ find name (n ∷ ns) = let later = find name ns in cond (same name n) 0 (later +
 
 unfoldable pub known : List ℕ → List (List ℕ) → Bool
 known name names = ltb (find name names) (length names)
+
+-- ---- names of labels, which are held as they are written
+
+-- "A label may now be two-way: ... in the sheet a star follows its name": the last byte is a star
+unfoldable pub isStarred : List ℕ → Bool
+isStarred bs = eqb (getD bs (length bs - 1) 0) 42
+
+-- without its star
+unfoldable pub starless : List ℕ → List ℕ
+starless bs = cond (isStarred bs) (take (length bs - 1) bs) bs
+
+-- a name, or a name with one star behind it, which is none of the 12 letters
+unfoldable pub isLabelName : List ℕ → Bool
+isLabelName bs = isName (starless bs)
+
+-- one name in two writings: one has the star, the other has not
+unfoldable pub differByStar : List ℕ → List ℕ → Bool
+differByStar a b = same (starless a) (starless b) && not (same a b)
+
+-- "A label both with and without its star is 14": one of the names is this one in its other writing
+unfoldable pub clashes : List ℕ → List (List ℕ) → Bool
+clashes name names = any (differByStar name) names

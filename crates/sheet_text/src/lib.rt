@@ -1,4 +1,4 @@
-// Text in a byte slice: lines and fields, names and numbers.
+// Text in a byte slice: lines and fields, names and numbers, names of labels.
 
 use limits::DIGITS;
 use limits::LABELS;
@@ -8,8 +8,8 @@ ghost use mathlib.Core.Bool.{true};
 ghost use Prim.Native.Nat.{_<_};
 ghost use Rattle.limits.specs.Limits.{mostLabels};
 ghost use Rattle.tables.specs.Lists.{all};
-ghost use Rattle.sheet_text.specs.Text.{within, isName, isNumber, valueOf, same, find};
-ghost use Rattle.sheet_text.specs.inner.Parts.{span, textAt, Inside, Cut, Fielded, namesOf, noNames, withName, InsideBoth, Numeral, Sought};
+ghost use Rattle.sheet_text.specs.Text.{within, isName, isNumber, valueOf, same, find, isStarred, isLabelName, differByStar, clashes};
+ghost use Rattle.sheet_text.specs.inner.Parts.{span, textAt, Inside, Cut, Fielded, namesOf, noNames, withName, InsideBoth, Starless, Numeral, Sought};
 
 // A part of a slice: the place where it starts, and the place after its end.
 pub struct Span {
@@ -212,4 +212,64 @@ pub fn with_name(names: Names, p: Span) -> Names
     more.spans[n] = p;
     more.n = n + 1;
     more
+}
+
+// ---- names of labels, with a star or without
+
+// Whether a part ends with a star.
+pub fn is_starred(s: &[u8], p: Span) -> bool
+    requires { ⌜ Inside (now s) p ⌝ }
+    ensures { λ r. ⌜ r ≡ isStarred (textAt (now (s .entry)) p) ⌝ }
+{
+    let e = p.end;
+    if p.start < e {
+        return s[e - 1] == 42;
+    }
+    false
+}
+
+// A part without its star.
+fn starless(s: &[u8], p: Span) -> Span
+    requires { ⌜ Inside (now s) p ⌝ }
+    ensures { λ r. ⌜ Starless (now (s .entry)) p r ⌝ }
+{
+    if is_starred(s, p) {
+        return Span {
+            start: p.start,
+            end: p.end - 1,
+        };
+    }
+    p
+}
+
+// Whether a part is the name of a label.
+pub fn is_label_name(s: &[u8], p: Span) -> bool
+    requires { ⌜ Inside (now s) p ⌝ }
+    ensures { λ r. ⌜ r ≡ isLabelName (textAt (now (s .entry)) p) ⌝ }
+{
+    is_name(s, starless(s, p))
+}
+
+// Whether two parts are one name in two writings, with its star and without.
+fn differ_by_star(s: &[u8], p: Span, q: Span) -> bool
+    requires { ⌜ InsideBoth (now s) p (now s) q ⌝ }
+    ensures { λ r. ⌜ r ≡ differByStar (textAt (now (s .entry)) p) (textAt (now (s .entry)) q) ⌝ }
+{
+    same_text(s, starless(s, p), s, starless(s, q)) & !same_text(s, p, s, q)
+}
+
+// Whether one of the names is this one in its other writing.
+pub fn clashes(s: &[u8], p: Span, names: Names) -> bool
+    requires { ⌜ Sought (now s) p names ⌝ }
+    ensures { λ r. ⌜ r ≡ clashes (textAt (now (s .entry)) p) (namesOf (now (s .entry)) names) ⌝ }
+{
+    let n = names.n;
+    let mut i = 0;
+    while i < n {
+        if differ_by_star(s, p, names.spans[i]) {
+            return true;
+        }
+        i += 1;
+    }
+    false
 }

@@ -28,8 +28,8 @@ entry-of-loop c = c .before .before .before .before
 abbrev loop-of-in-loop : tie.In-loop Inv-loop μ-loop → tie.At-loop Inv-loop μ-loop
 loop-of-in-loop c = c .before
 
-abbrev entry-of-word2 : tie.After-word2 Inv-loop μ-loop → tie.Start Inv-loop μ-loop
-entry-of-word2 c = entry-of-loop (c .before .before)
+abbrev entry-of-size-at : tie.After-size-at Inv-loop μ-loop → tie.Start Inv-loop μ-loop
+entry-of-size-at c = entry-of-loop (c .before .before)
 
 abbrev loop-of-again : tie.After-enum-told Inv-loop μ-loop → tie.At-loop Inv-loop μ-loop
 loop-of-again c = loop-of-in-loop (c .before .before .before .before)
@@ -41,11 +41,11 @@ loop-holds c =
     let feed = c .before .before .before .args .feed .now in
     (omega arith, rw (c .table-count .ensures) (ends-start feed (c .before .before .before .pre .exact)), rw (c .table-count .ensures) (tables-start feed))
 
-inside : (c : tie.After-word2 Inv-loop μ-loop) → c .before .before .loop .at + 2 * c .word2 .result ≤ length (entry-of-word2 c .args .feed .now)
+inside : (c : tie.After-size-at Inv-loop μ-loop) → c .before .before .loop .at + 2 * c .size-at .result ≤ length (entry-of-size-at c .args .feed .now)
 inside c =
     let at = c .before .before in
     let feed = entry-of-loop at .args .feed .now in
-    rw (c .word2 .ensures) (ends-inside feed (omega arith) (at .loop .k) (at .loop .at) (omega arith) (at .loop .inv .1))
+    rw (c .size-at .ensures) (ends-inside feed (omega arith) (at .loop .k) (at .loop .at) (omega arith) (at .loop .inv .1))
 
 check-pairs-requires : tie.Need-check-pairs-requires Inv-loop μ-loop
 check-pairs-requires c κs = record { inside = inside c; short = omega arith }
@@ -57,13 +57,13 @@ enum-told c = search needs
 turn : (c : tie.After-check-pairs Inv-loop μ-loop) →
     let at = c .before .before .before in
     let feed = at .before .before .before .before .args .feed .now in
-    verdictOf (c .check-pairs .result) then tablesLeft feed (at .loop .k + 1) (at .loop .at + 2 * c .before .word2 .result)
+    verdictOf (c .check-pairs .result) then tablesLeft feed (at .loop .k + 1) (at .loop .at + 2 * c .before .size-at .result)
     ≡ checkTables (classCount feed) (2 + tableCount feed) (tables feed)
 unfolding classCount
 turn c =
     let at = c .before .before .before in
     let feed = entry-of-loop at .args .feed .now in
-    tables-turn feed (omega arith) (at .loop .k) (at .loop .at) (omega arith) (at .loop .inv .1) (at .before .before .word .ensures) (c .before .word2 .ensures) (c .check-pairs .ensures)
+    tables-turn feed (omega arith) (at .loop .k) (at .loop .at) (omega arith) (at .loop .inv .1) (at .before .before .word .ensures) (c .before .size-at .ensures) (c .check-pairs .ensures)
     ∙ at .loop .inv .2
 
 returns : tie.Need-returns Inv-loop μ-loop
@@ -74,7 +74,7 @@ loop-again c =
     let at = loop-of-again c in
     let feed = entry-of-loop at .args .feed .now in (
       omega arith,
-      rw (c .before .before .before .word2 .ensures) (ends-next feed (omega arith) (at .loop .k) (at .loop .at) (omega arith) (at .loop .inv .1)),
+      rw (c .before .before .before .size-at .ensures) (ends-next feed (omega arith) (at .loop .k) (at .loop .at) (omega arith) (at .loop .inv .1)),
       leaves _ (c .enum-told .given .1) ∙ turn (c .before .before),
     )
 
@@ -95,7 +95,6 @@ check-tables-spec =
     (λ c κs. omega arith)
     (λ c. omega arith)
     loop-holds
-    (λ c. omega arith)
     (λ c κs. omega arith)
     check-pairs-requires
     enum-told

@@ -33,7 +33,7 @@ loop-again c =
     let k = at .loop .k in (
       omega arith,
       omega arith,
-      ap (λ (n : ℕ). countsLeft feed (at .loop .sum + n) (k + 1)) (c .before .word .ensures)
+      ap (λ (n : ℕ). countsLeft feed (at .loop .sum + n) (k + 1)) (c .before .size-at .ensures)
           ∙ counts-pass feed (omega arith) (at .loop .sum) k (omega arith) (omega arith)
           ∙ at .loop .inv .2,
     )
@@ -52,7 +52,6 @@ sum-counts-spec =
     μ-loop
     (λ c κs. omega arith)
     loop-holds
-    (λ c. omega arith)
     (λ c κs. omega arith)
     (λ c. omega arith)
     (λ c. omega arith)

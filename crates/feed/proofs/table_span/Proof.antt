@@ -8,7 +8,7 @@ use native.Mathlib.Omega.{arith}
 use lib.ListN.{length, getD}
 use Rattle.feed.specs.Feed.{tableCount, counts, tables}
 use Rattle.feed.proofs.Feed.{feed-accepted}
-use Rattle.feed.proofs.Words.{count-at, tablesFrom, tables-from-start, Ends, ends-start, ends-inside, ends-next, table-later, table-here}
+use Rattle.feed.proofs.Words.{tablesFrom, tables-from-start, Ends, ends-start, ends-inside, ends-next, table-later, table-here}
 use Rattle.feed.proofs.Checks.{count-small}
 use Rattle.feed.proofs.table_span.Statement.{statement}
 use Rattle.feed.proofs.table_span.Tie as tie
@@ -27,8 +27,8 @@ entry-of-in-loop c = c .before .before .before .before
 abbrev entry-of-after-loop : tie.After-loop Inv-loop μ-loop → tie.Start Inv-loop μ-loop
 entry-of-after-loop c = c .before .before .before .before
 
-abbrev entry-of-word : tie.After-word Inv-loop μ-loop → tie.Start Inv-loop μ-loop
-entry-of-word c = entry-of-in-loop (c .before)
+abbrev entry-of-size-at : tie.After-size-at Inv-loop μ-loop → tie.Start Inv-loop μ-loop
+entry-of-size-at c = entry-of-in-loop (c .before)
 
 -- ---- end of places
 
@@ -46,15 +46,15 @@ loop-holds c =
     let e : a .k - 0 ≡ a .k = omega arith in
     (omega arith, rw (c .table-count .ensures) (ends-start (a .feed .now) (ok .exact)), rw (c .table-count .ensures, e, tables-from-start))
 
-word-requires : tie.Need-word-requires Inv-loop μ-loop
-word-requires c κs = let ok = feed-accepted _ (entry-of-in-loop c .pre .checked) in omega arith
+size-at-requires : tie.Need-size-at-requires Inv-loop μ-loop
+size-at-requires c κs = let ok = feed-accepted _ (entry-of-in-loop c .pre .checked) in omega arith
 
-inside : (c : tie.After-word Inv-loop μ-loop) → c .before .before .loop .start + 2 * c .word .result ≤ length (entry-of-word c .args .feed .now)
+inside : (c : tie.After-size-at Inv-loop μ-loop) → c .before .before .loop .start + 2 * c .size-at .result ≤ length (entry-of-size-at c .args .feed .now)
 inside c =
     let at = c .before .before in
     let a = at .before .before .before .args in
     let ok = feed-accepted _ (at .before .before .before .pre .checked) in
-    rw (c .word .ensures) (ends-inside (a .feed .now) (ok .counted) (at .loop .j) (at .loop .start) (omega arith) (at .loop .inv .1))
+    rw (c .size-at .ensures) (ends-inside (a .feed .now) (ok .counted) (at .loop .j) (at .loop .start) (omega arith) (at .loop .inv .1))
 
 loop-again : tie.Need-loop-again Inv-loop μ-loop
 loop-again c =
@@ -62,15 +62,12 @@ loop-again c =
     let a = at .before .before .before .args in
     let ok = feed-accepted _ (at .before .before .before .pre .checked) in (
       omega arith,
-      rw (c .word .ensures) (ends-next (a .feed .now) (ok .counted) (at .loop .j) (at .loop .start) (omega arith) (at .loop .inv .1)),
-      rw (c .word .ensures) (table-later (a .feed .now) (ok .counted) (at .loop .j) (at .loop .start) (omega arith) (a .k) (omega arith) ∙ at .loop .inv .2),
+      rw (c .size-at .ensures) (ends-next (a .feed .now) (ok .counted) (at .loop .j) (at .loop .start) (omega arith) (at .loop .inv .1)),
+      rw (c .size-at .ensures) (table-later (a .feed .now) (ok .counted) (at .loop .j) (at .loop .start) (omega arith) (a .k) (omega arith) ∙ at .loop .inv .2),
     )
 
-add-word-2 : tie.Need-add-word-2 Inv-loop μ-loop
-add-word-2 c = let ok = feed-accepted _ (entry-of-after-loop c .pre .checked) in omega arith
-
-word-requires-2 : tie.Need-word-requires-2 Inv-loop μ-loop
-word-requires-2 c κs = let ok = feed-accepted _ (entry-of-after-loop c .pre .checked) in omega arith
+size-at-requires-2 : tie.Need-size-at-requires-2 Inv-loop μ-loop
+size-at-requires-2 c κs = let ok = feed-accepted _ (entry-of-after-loop c .pre .checked) in omega arith
 
 returns : tie.Need-returns Inv-loop μ-loop
 returns c =
@@ -82,9 +79,9 @@ returns c =
     let l : a .k < tableCount feed = omega arith in
     let e : at .loop .j ≡ a .k = omega arith in
     record {
-      inside = rw (c .word2 .ensures) (ends-inside feed (ok .counted) (a .k) start l (rw e at (at .loop .inv .1)));
-      short = rw (c .word2 .ensures, ← count-at feed (a .k) l) (count-small 2 (counts feed) (a .k) (ok .countsChecked));
-      pairs = rw (c .word2 .ensures) (table-here feed (ok .counted) (a .k) start l ∙ rw e at (at .loop .inv .2));
+      inside = rw (c .size-at2 .ensures) (ends-inside feed (ok .counted) (a .k) start l (rw e at (at .loop .inv .1)));
+      short = rw (c .size-at2 .ensures) (count-small 2 (counts feed) (a .k) (ok .countsChecked));
+      pairs = rw (c .size-at2 .ensures) (table-here feed (ok .counted) (a .k) start l ∙ rw e at (at .loop .inv .2));
     }
 
 pub table-span-spec : {M : Type 1} → statement M
@@ -96,13 +93,11 @@ table-span-spec =
     table-count-requires
     add-start
     loop-holds
-    (λ c. search needs)
-    word-requires
+    size-at-requires
     (λ c. omega (arith, inside c))
     (λ c. omega (arith, inside c))
     (λ c. omega arith)
     (λ c. omega arith)
     loop-again
-    add-word-2
-    word-requires-2
+    size-at-requires-2
     returns)

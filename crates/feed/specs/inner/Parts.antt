@@ -39,6 +39,11 @@ pub record Counted (feed : List ℕ) : Type 0 where
   pub counted : 2 + tableCount feed ≤ length feed
   pub few : tableCount feed ≤ mostTables
 
+-- the feed has a table number k, and the counts are inside it
+pub record HasTable (feed : List ℕ) (k : ℕ) : Type 0 where
+  pub counted : 2 + tableCount feed ≤ length feed
+  pub there : k < tableCount feed
+
 -- the sum of the pair counts where their check accepts them, else the place of the first that it refuses
 unfoldable pub countsFound : Verdict → ℕ → Counts
 countsFound accepted sum = Sum sum

@@ -10,7 +10,7 @@ use Rattle.sheet_lines.proofs.class_line.Tie as tie
 value-of-requires : tie.Need-value-of-requires
 value-of-requires c κs =
     let w = c .before .before .fields-of .ensures in
-    record { inside = w .within .second; number = class-passed w _ (sym (c .before .is-class .ensures) ∙ c .if1 .taken) .2 }
+    record { inside = w .within .second; number = class-passed w _ (sym (c .before .is-class .ensures) ∙ c .if1 .taken) .3 }
 
 with-line-requires : tie.Need-with-line-requires
 with-line-requires c κs =
@@ -21,7 +21,7 @@ with-line-requires c κs =
     let f = s .pre .ready .fine in
     let p = class-passed w _ (sym (i .before .is-class .ensures) ∙ i .if1 .taken) in
     record {
-      fitting = record { asked = record { inside = w .within .first; spans = f .classes; few = omega arith }; fits = p .1 };
+      fitting = record { asked = record { inside = w .within .first; spans = f .classes; few = omega arith }; fits = p .2 };
       room = omega (arith, f .lines, p .0 .starts, p .0 .apart, p .0 .ends, w .within .first .ordered, w .within .second .ends, s .pre .ready .short, s .pre .room);
     }
 

@@ -5,9 +5,7 @@ use Rattle.sheet_lines.proofs.fits.Statement.{statement}
 use Rattle.sheet_lines.proofs.fits.Tie as tie
 
 returns : tie.Need-returns
-returns c =
-    let s = c .before .before .before .before in
-    rw (c .before .before .is-name .ensures, c .knows .ensures) (fits-is (s .pre .spans) (s .pre .few) _)
+returns c = let s = c .before .before .before in rw (c .knows .ensures) (fits-is (s .pre .spans) (s .pre .few) _)
 
 pub fits-spec : {M : Type 1} → statement M
-fits-spec = tie.close (tie.spec (λ c κs. search needs) (λ c κs. search needs) returns)
+fits-spec = tie.close (tie.spec (λ c κs. search needs) returns)

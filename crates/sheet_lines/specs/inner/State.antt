@@ -1,13 +1,13 @@
 -- State: what the reader holds of a sheet, and what it shows of it.
 --
--- In order: the lines of the classes or labels, in words; what a state shows; what the functions are given; steps that touch no lines; what a step
--- promises. Assumes nothing.
+-- In order: the lines of the classes or labels, in words; what a state shows; what the functions are given; the tests of a class line and of a label
+-- line; steps that touch no lines; what a step promises. Assumes nothing.
 use Prim.Native.Nat.{ℕ, _+_, _*_, _/_, _≤_, _<_}
 use mathlib.Core.Path.{_≡_}
-use mathlib.Core.Bool.{Bool, true, false}
+use mathlib.Core.Bool.{Bool, true, false, _&&_, not}
 use mathlib.Core.List.{List, [], _∷_}
 use mathlib.Core.Option.{Option}
-use lib.Dec.{ltb}
+use lib.Dec.{eqb, ltb}
 use lib.ListN.{length, set, take}
 use Rattle.limits.specs.Limits.{mostClasses, mostLabels, mostNodes, mostBytes}
 use Rattle.answers.specs.Verdict.{isAccepted}
@@ -18,6 +18,7 @@ use Rattle.drawing.specs.Builder.{Line, view}
 use Rattle.sheet_text.specs.declared.Span.{Span}
 use Rattle.sheet_text.specs.declared.Names.{Names}
 use Rattle.sheet_text.specs.declared.Fields.{Fields}
+use Rattle.sheet_text.specs.Text.{isName, isNumber, isLabelName, clashes}
 use Rattle.sheet_text.specs.inner.Parts.{textAt, Inside, Within, namesOf, withName, Spans}
 use Rattle.sheet_lines.specs.declared.Tables.{Tables}
 use Rattle.sheet_lines.specs.declared.State.{State}
@@ -123,6 +124,16 @@ pub record ReadyIn (s rows : List ℕ) (line : Span) (x : State) : Type 0 where
 pub record ReadyFor (s classes labels : List ℕ) (line : Span) (x : State) : Type 0 where
   pub ready : Ready s line x
   pub held : Held classes labels
+
+-- ---- whether fields make a class line, with these names of classes; a label line, with these names of labels
+
+abbrev pub isClassLine : List ℕ → Fields → List (List ℕ) → Bool
+isClassLine s f names = eqb (f .count) 2 && isName (textAt s (f .first)) && fitsTable mostClasses (textAt s (f .first)) names && isNumber (textAt s (f .second))
+
+abbrev pub isLabelLine : List ℕ → Fields → List (List ℕ) → Bool
+isLabelLine s f names =
+    eqb (f .count) 3 && isLabelName (textAt s (f .first)) && not (clashes (textAt s (f .first)) names) && fitsTable mostLabels (textAt s (f .first)) names
+    && isNumber (textAt s (f .second)) && isNumber (textAt s (f .third))
 
 -- ---- steps that touch no lines
 

@@ -9,16 +9,16 @@ put-counts-requires : tie.Need-put-counts-requires
 put-counts-requires c κs =
     let p = c .before .before .before in
     let a = p .before .before .before .before in
-    let s = a .before .before .before in
+    let s = a .before .before .before .before in
     record { lines = class-lines (s .pre); few = omega (arith, s .pre .classes); room = class-counts (s .pre) (p .put-two .ensures) }
 
-put-counts-requires-2 : tie.Need-put-counts-requires-2
-put-counts-requires-2 c κs =
+put-label-counts-requires : tie.Need-put-label-counts-requires
+put-label-counts-requires c κs =
     let q = c .before .before .before in
     let p = q .before .before .before .before in
     let a = p .before .before .before .before in
-    let s = a .before .before .before in
-    record { lines = label-lines (s .pre); few = s .pre .labels; room = label-counts (s .pre) (p .put-two .ensures) (q .put-counts .ensures) }
+    let s = a .before .before .before .before in
+    record { lines = label-lines (s .pre); names = s .pre .labels; room = label-counts (s .pre) (p .put-two .ensures) (q .put-counts .ensures) }
 
 put-tables-requires : tie.Need-put-tables-requires
 put-tables-requires c κs =
@@ -26,8 +26,8 @@ put-tables-requires c κs =
     let q = u .before .before .before .before in
     let p = q .before .before .before .before in
     let a = p .before .before .before .before in
-    let s = a .before .before .before in
-    record { lines = class-lines (s .pre); few = omega (arith, s .pre .classes); room = class-pairs (s .pre) (p .put-two .ensures) (q .put-counts .ensures) (u .put-counts2 .ensures) }
+    let s = a .before .before .before .before in
+    record { lines = class-lines (s .pre); few = omega (arith, s .pre .classes); room = class-pairs (s .pre) (p .put-two .ensures) (q .put-counts .ensures) (u .put-label-counts .ensures) }
 
 put-tables-requires-2 : tie.Need-put-tables-requires-2
 put-tables-requires-2 c κs =
@@ -36,8 +36,8 @@ put-tables-requires-2 c κs =
     let q = u .before .before .before .before in
     let p = q .before .before .before .before in
     let a = p .before .before .before .before in
-    let s = a .before .before .before in
-    record { lines = label-lines (s .pre); few = s .pre .labels; room = label-pairs (s .pre) (p .put-two .ensures) (q .put-counts .ensures) (u .put-counts2 .ensures) (v .put-tables .ensures) }
+    let s = a .before .before .before .before in
+    record { lines = label-lines (s .pre); few = s .pre .labels .few; room = label-pairs (s .pre) (p .put-two .ensures) (q .put-counts .ensures) (u .put-label-counts .ensures) (v .put-tables .ensures) }
 
 returns : tie.Need-returns
 returns c =
@@ -47,7 +47,7 @@ returns c =
     let q = u .before .before .before .before in
     let p = q .before .before .before .before in
     let a = p .before .before .before .before in
-    feed-put (a .before .before .before .pre) (p .put-two .ensures) (q .put-counts .ensures) (u .put-counts2 .ensures) (v .put-tables .ensures) (w .put-tables2 .ensures)
+    feed-put (a .before .before .before .before .pre) (p .put-two .ensures) (q .put-counts .ensures) (u .put-label-counts .ensures) (v .put-tables .ensures) (w .put-tables2 .ensures)
 
 pub put-feed-spec : {M : Type 1} → statement M
 put-feed-spec =
@@ -57,7 +57,7 @@ put-feed-spec =
     (λ c. search needs)
     (λ c κs. search needs)
     put-counts-requires
-    put-counts-requires-2
+    put-label-counts-requires
     put-tables-requires
     put-tables-requires-2
     (λ c. search needs)

@@ -5,20 +5,22 @@
 use Prim.Native.Nat.{ℕ, _+_, _*_, _/_, _≤_}
 use mathlib.Core.Path.{_≡_}
 use mathlib.Core.Bool.{false}
-use mathlib.Core.List.{List}
+use mathlib.Core.List.{List, map}
 use lib.ListN.{length, take}
 use Rattle.limits.specs.Limits.{mostClasses, mostLabels, mostTables, mostNodes}
 use Rattle.answers.specs.Verdict.{Verdict, accepted, refused}
 use Rattle.answers.specs.Answers.{verdictOf}
 use Rattle.tables.specs.Order.{Table}
 use Rattle.tables.specs.Slices.{tableWords}
+use Rattle.feed.specs.Feed.{Label, labelWord}
 use Rattle.drawing.specs.Builder.{emptyDrawing, view}
-use Rattle.sheet_text.specs.inner.Parts.{namesOf, noNames, Spans}
+use Rattle.sheet_text.specs.declared.Span.{Span}
+use Rattle.sheet_text.specs.inner.Parts.{Inside, namesOf, noNames, Spans}
 use Rattle.sheet_lines.specs.declared.Tables.{Tables}
 use Rattle.sheet_lines.specs.declared.State.{State}
 use Rattle.sheet_lines.specs.Reading.{Reading}
-use Rattle.sheet_lines.specs.inner.State.{entries, viewOf, lineWords, Fine, Held}
-use Rattle.sheet_reader.specs.Sheet.{Outcome, read, breach, readSheet, linesOf, grouped, feedOf}
+use Rattle.sheet_lines.specs.inner.State.{entries, tablesRead, viewOf, lineWords, Fine, Held}
+use Rattle.sheet_reader.specs.Sheet.{Outcome, read, breach, readSheet, linesOf, grouped, labelsOf, feedOf}
 use Rattle.sheet_reader.specs.declared.Scan.{Scan}
 use Rattle.sheet_reader.specs.declared.SheetRead.{SheetRead}
 
@@ -49,6 +51,10 @@ pub record Scanned (s ws vs : List ℕ) (r : Scan) : Type 0 where
 unfoldable pub tablesIn : List ℕ → Tables → List Table
 tablesIn ws t = grouped (entries ws (t .lines)) (t .names .n)
 
+-- the labels of such lines, whose names are parts of the sheet
+unfoldable pub labelsIn : List ℕ → List ℕ → Tables → List Label
+labelsIn s ws t = labelsOf (tablesRead s ws t)
+
 -- so many lines stand in the words
 pub record Lines (ws : List ℕ) (lines : ℕ) : Type 0 where
   pub inside : 3 * lines ≤ length ws
@@ -59,22 +65,33 @@ pub record TableFits (words : List ℕ) (at : ℕ) (ws : List ℕ) (lines k : �
   pub held : Lines ws lines
   pub room : at + length (tableWords (linesOf k (entries ws lines))) ≤ length words
 
+-- a label's name, and lines that stand in words
+pub record LabelIn (s : List ℕ) (p : Span) (ws : List ℕ) (lines : ℕ) : Type 0 where
+  pub name : Inside s p
+  pub held : Lines ws lines
+
 -- tables whose lines stand in words, and room for xs from place `at` on
 pub record Writable (words : List ℕ) (at : ℕ) (ws : List ℕ) (t : Tables) (xs : List ℕ) : Type 0 where
   pub lines : Lines ws (t .lines)
   pub few : t .names .n ≤ mostLabels
   pub room : at + length xs ≤ length words
 
+-- labels whose lines stand in words, their names, and room for their count words from place `at` on
+pub record LabelsFit (words : List ℕ) (at : ℕ) (s ws : List ℕ) (t : Tables) : Type 0 where
+  pub lines : Lines ws (t .lines)
+  pub names : Spans s (t .names) mostLabels
+  pub room : at + length (map labelWord (labelsIn s ws t)) ≤ length words
+
 -- the most words of a feed that comes from a sheet: two, the counts of all tables, and two for each line
 abbrev pub feedRoom : ℕ
 feedRoom = 2 + mostTables + 2 * mostLines
 
 -- classes and labels whose lines stand in words, and room for their feed
-pub record Feedable (words ws vs : List ℕ) (c l : Tables) : Type 0 where
+pub record Feedable (words s ws vs : List ℕ) (c l : Tables) : Type 0 where
   pub held : Held ws vs
   pub room : feedRoom ≤ length words
   pub classes : c .names .n ≤ mostClasses
-  pub labels : l .names .n ≤ mostLabels
+  pub labels : Spans s (l .names) mostLabels
   pub few : c .lines + l .lines ≤ mostLines
 
 -- ---- a sheet

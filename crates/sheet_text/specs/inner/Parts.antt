@@ -1,7 +1,7 @@
 -- Parts: what the functions on a byte slice promise, which name a part of it by a span.
 --
--- In order: a part, and its text; the end of the next part before a separator; the fields of a line; names by the places where they stand.
--- Assumes nothing.
+-- In order: a part, and its text; a part without its star, one that is a number; the end of the next part before a separator; the fields of a line;
+-- names by the places where they stand. Assumes nothing.
 use Prim.Native.Nat.{ℕ, _+_, _≤_, _<_, min}
 use mathlib.Core.Path.{_≡_}
 use mathlib.Core.Bool.{true}
@@ -9,7 +9,7 @@ use mathlib.Core.List.{List, [], _∷_, map}
 use lib.ListN.{length, getD, set, take, replicate}
 use lib.Seq.{slice}
 use Rattle.limits.specs.Limits.{mostLabels}
-use Rattle.sheet_text.specs.Text.{split, fields, isNumber}
+use Rattle.sheet_text.specs.Text.{split, fields, isNumber, starless}
 use Rattle.sheet_text.specs.declared.Span.{Span}
 use Rattle.sheet_text.specs.declared.Names.{Names}
 use Rattle.sheet_text.specs.declared.Fields.{Fields}
@@ -28,6 +28,11 @@ pub record Inside (s : List ℕ) (p : Span) : Type 0 where
 pub record InsideBoth (s : List ℕ) (p : Span) (t : List ℕ) (q : Span) : Type 0 where
   pub first : Inside s p
   pub second : Inside t q
+
+-- q is a part p without its star
+pub record Starless (s : List ℕ) (p q : Span) : Type 0 where
+  pub inside : Inside s q
+  pub text : textAt s q ≡ starless (textAt s p)
 
 -- a part that is a number
 pub record Numeral (s : List ℕ) (p : Span) : Type 0 where

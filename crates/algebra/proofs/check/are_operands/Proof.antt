@@ -1,7 +1,6 @@
 -- `algebra::check::are_operands` meets its contract: each shape by its own tests. Assumes nothing.
 use mathlib.Core.Bool.{and-true}
 use borrow.Author.Needs.{needs}
-use Rattle.feed.specs.Feed.{classCount, labelCount}
 use Rattle.algebra.specs.Instructions.{isOperand}
 use Rattle.algebra.specs.inner.Parts.{operandsOf, areOperands}
 use Rattle.algebra.proofs.check.are_operands.Statement.{statement}
@@ -11,12 +10,12 @@ enum-told : tie.Need-enum-told
 enum-told c = search needs
 
 returns : tie.Need-returns
-unfolding areOperands operandsOf isOperand classCount
-returns c = rw (c .before .enum-told .given .1)
+unfolding areOperands operandsOf isOperand
+returns c = rw (c .before .enum-told .given .1, ← c .class-count .ensures)
 
 returns-2 : tie.Need-returns-2
-unfolding areOperands operandsOf isOperand labelCount
-returns-2 c = rw (c .before .enum-told2 .given .1)
+unfolding areOperands operandsOf isOperand
+returns-2 c = rw (c .before .enum-told2 .given .1, ← c .label-count .ensures)
 
 returns-3 : tie.Need-returns-3
 unfolding areOperands operandsOf isOperand

@@ -4,7 +4,6 @@ use mathlib.Core.Bool.{Bool}
 use Rattle.answers.specs.Verdict.{unless}
 use Rattle.answers.specs.Answers.{verdictOf}
 use Rattle.answers.proofs.Refusing.{leaves, stands}
-use Rattle.feed.specs.Feed.{classCount, labelCount}
 use Rattle.drawing.specs.Drawing.{checkPattern}
 use Rattle.drawing.specs.Builder.{view}
 use borrow.Author.Needs.{needs}
@@ -15,16 +14,16 @@ enum-told : tie.Need-enum-told
 enum-told c = search needs
 
 returns : tie.Need-returns
-unfolding checkPattern classCount labelCount
-returns c = rw (← c .before .check-nodes .ensures) (stands _ _ (c .match .keys2))
+unfolding checkPattern
+returns c = rw (← c .before .before .class-count .ensures, ← c .before .check-nodes .ensures) (stands _ _ (c .match .keys2))
 
 returns-2 : tie.Need-returns-2
-unfolding checkPattern classCount labelCount
+unfolding checkPattern
 returns-2 c =
     let edges = c .before in
     let told = edges .before .before in
     let nodes = told .before .before in
-    rw (← nodes .check-nodes .ensures, ← edges .check-edges .ensures) (stands _ _ (c .match2 .keys2) ∙ leaves _ (told .enum-told .given .1))
+    rw (← nodes .before .class-count .ensures, ← edges .before .label-count .ensures, ← nodes .check-nodes .ensures, ← edges .check-edges .ensures) (stands _ _ (c .match2 .keys2) ∙ leaves _ (told .enum-told .given .1))
 
 -- nodes and edges are accepted: what is left is whether one is picked
 picks-left : (c : tie.After-has-pick) {b : Bool} → c .has-pick .result ≡ b →
@@ -32,12 +31,12 @@ picks-left : (c : tie.After-has-pick) {b : Bool} → c .has-pick .result ≡ b �
     let nodes = edges .before .before .before .before in
     let a = nodes .before .before .before .args in
     unless b 7 0 ≡ checkPattern (a .feed .now) (view (a .d))
-unfolding checkPattern classCount labelCount
+unfolding checkPattern
 picks-left c e =
     let edges = c .before .before .before in
     let told = edges .before .before in
     let nodes = told .before .before in
-    rw (← nodes .check-nodes .ensures, ← edges .check-edges .ensures, ← c .has-pick .ensures, e) (leaves _ (c .before .enum-told2 .given .1) ∙ leaves _ (told .enum-told .given .1))
+    rw (← nodes .before .class-count .ensures, ← edges .before .label-count .ensures, ← nodes .check-nodes .ensures, ← edges .check-edges .ensures, ← c .has-pick .ensures, e) (leaves _ (c .before .enum-told2 .given .1) ∙ leaves _ (told .enum-told .given .1))
 
 returns-3 : tie.Need-returns-3
 unfolding verdictOf unless
