@@ -198,6 +198,16 @@ fn small(tally: &mut Tally) {
     runs(tally, "the manual's small list", &case.feed, &list, &work);
 }
 
+/// Section 4: a feed with a two-way label, and the rows of a drawing over it.
+fn touching(tally: &mut Tally) {
+    let words_of = "2 1  0 1  0 1  0 0 1";
+    says(tally, &format!("`{}`", words_of.replace("  ", " ")));
+    let (feed, drawing) = (words(tally, "touching-feed", 1), numbers(words_of));
+    let list = model::translate(&model::read_drawing(&drawing)).list;
+    answers(tally, "the manual's touching regions", &Case { feed, drawing, list, ..Case::default() }, &numbers(&text("touching-rows")));
+    says(tally, &format!("of a two-way label {} more", with_comma(model::MARK)));
+}
+
 /// The table of kinds: instruction i has kind i, register i holds what is printed, and its operands are of the sort that is named.
 fn kinds(tally: &mut Tally) {
     let feed = words(tally, "kinds-feed", 1);
@@ -340,6 +350,7 @@ fn leaves_so(tally: &mut Tally, call: &str, row: &[&str], case: &Case, left: &Le
 
 pub fn examples(tally: &mut Tally) {
     small(tally);
+    touching(tally);
     kinds(tally);
     reductions(tally);
     whole_sample(tally);

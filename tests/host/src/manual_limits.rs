@@ -1,6 +1,7 @@
 //! The manual's table of limits: each is met, and passed by one (or by as little as there is) with the refusal that is named.
 
 use crate::manual::{self, ask, file, listing, says, Case};
+use crate::model::MARK;
 use crate::Tally;
 
 /// Words in a row.
@@ -88,21 +89,39 @@ fn row_words(n: u32) -> u32 {
     a.map_or(99, |a| listed(crossed(&[1, a, rows / (a * a)], &[0, 1, 1, 2])))
 }
 
+/// A sheet whose label has a name of n letters and a star.
+fn starred(n: usize) -> u32 {
+    let label = "l".repeat(n);
+    listed(format!("class object\na 1\n\nlabel from to\n{label}* 1 1\n\nnode class pick\nx a 1\n\nedge source target\n{label}* x x\n"))
+}
+
 // ---- the table
+
+/// The number that two probes have in common.
+fn common(a: u32, b: u32) -> u32 {
+    if a == b { a } else { 99 }
+}
 
 /// The refusal's number, or 0, of what has so much of this.
 fn probe(limit: &str, n: u32) -> u32 {
     match limit {
         "classes of a feed" => feed(counted(n, 0, &repeated(&[0], n))),
         "labels of a feed" => feed(counted(0, n, &repeated(&[0], n))),
-        "pairs of a table" => feed(counted(1, 0, &[n])),
+        // of a class, and of a two-way label
+        "pairs of a table, as stored" => {
+            let mut label = counted(0, 1, &[n]);
+            label[2] += MARK;
+            common(feed(counted(1, 0, &[n])), feed(label))
+        }
         "an object" => feed(vec![1, 0, 1, n, n]),
         "nodes of a drawing" => drawing([vec![n, 0], repeated(&[0, 1], n)].concat()),
         "edges of a drawing" => drawing([vec![1, n, 0, 1], repeated(&[0, 0, 0], n)].concat()),
         "instructions of a list" => list(vec![1, 0, 0], repeated(&[0, 0, 0], n)),
         "pairs of a register" => register(n),
         "bytes of a sheet" => bytes(n as usize),
-        "letters of a name" => listed(sheet("a 1\n", &format!("{} a 1\n", "x".repeat(n as usize)))),
+        "letters of a name, without a star" => {
+            common(listed(sheet("a 1\n", &format!("{} a 1\n", "x".repeat(n as usize)))), starred(n as usize))
+        }
         "digits of a number" => listed(sheet(&format!("a 1{}\n", "0".repeat(n as usize - 1)), "x a 1\n")),
         "pairs of a sheet's registers together" => pairs(n),
         "row words of a sheet" => row_words(n),
@@ -114,14 +133,14 @@ fn probe(limit: &str, n: u32) -> u32 {
 const SENTENCES: [(&str, &[&str]); 13] = [
     ("classes of a feed", &["C, the number of classes, 0 to {}", "a line past {} classes,", "| C over {} |"]),
     ("labels of a feed", &["L, the number of labels, 0 to {}", "classes, {} labels,", "| L over {} |"]),
-    ("pairs of a table", &["how many pairs each table has, 0 to {}:", "a count over {} |"]),
+    ("pairs of a table, as stored", &["how many pairs each table has, 0 to {}:", "a count over {} |", "a two-way label over {}, without its mark"]),
     ("an object", &["each a number from 0 to {}.", "No value is above {}.", "a value above {}, left"]),
     ("nodes of a drawing", &["n, the number of nodes, 1 to {}", "labels, {} nodes", "n not 1 to {},"]),
     ("edges of a drawing", &["e, the number of edges, 0 to {}", "nodes or {} edges", "or e over {} |"]),
     ("instructions of a list", &["A list is 1 to {} instructions", "no instruction, or over {} |"]),
     ("pairs of a register", &["a register of more than {} pairs"]),
     ("bytes of a sheet", &["At most {} bytes.", "A sheet of more than {} bytes is 14 at place 0", "| a sheet of more than {} bytes |"]),
-    ("letters of a name", &["name = 1 to {} letters"]),
+    ("letters of a name, without a star", &["name = 1 to {} letters", "It is not one of the {} letters."]),
     ("digits of a number", &["number = 1 to {} digits"]),
     ("pairs of a sheet's registers together", &["16,384 work words ({} pairs)"]),
     ("row words of a sheet", &["and {} row words"]),
