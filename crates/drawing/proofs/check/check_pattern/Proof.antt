@@ -36,7 +36,8 @@ picks-left c e =
     let edges = c .before .before .before in
     let told = edges .before .before in
     let nodes = told .before .before in
-    rw (← nodes .before .class-count .ensures, ← edges .before .label-count .ensures, ← nodes .check-nodes .ensures, ← edges .check-edges .ensures, ← c .has-pick .ensures, e) (leaves _ (c .before .enum-told2 .given .1) ∙ leaves _ (told .enum-told .given .1))
+    let accepts = leaves _ (c .before .enum-told2 .given .1) ∙ leaves _ (told .enum-told .given .1) in
+    rw (← nodes .before .class-count .ensures, ← edges .before .label-count .ensures, ← nodes .check-nodes .ensures, ← edges .check-edges .ensures, ← c .has-pick .ensures, e) accepts
 
 returns-3 : tie.Need-returns-3
 unfolding verdictOf unless
