@@ -48,7 +48,7 @@ isMarked w = leb twoWayMark w
 unfoldable pub sizeOf : ℕ → ℕ
 sizeOf w = cond (isMarked w) (w - twoWayMark) w
 
--- how many pairs each table has; a class has no mark, so its count word is its size
+-- how many pairs each table has: a class's count word as it stands, so that one with a mark is over the ceiling; a label's without its mark
 unfoldable pub counts : List ℕ → List ℕ
 counts feed = take (classCount feed) (countWords feed) ++ map sizeOf (drop (classCount feed) (countWords feed))
 

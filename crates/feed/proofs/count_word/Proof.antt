@@ -1,5 +1,4 @@
 -- `feed::count_word` meets its contract. Assumes nothing.
-use mathlib.Core.Path.{refl}
 use borrow.Author.Needs.{needs}
 use Rattle.feed.specs.Feed.{countWord}
 use Rattle.feed.proofs.count_word.Statement.{statement}

@@ -1,8 +1,8 @@
 -- `feed::size_at` meets its contract: a class's count word is its size, a label's may have a mark. Assumes nothing.
-use mathlib.Core.Path.{_∙_, ap, sym}
+use mathlib.Core.Path.{_∙_, sym}
 use native.Mathlib.Omega.{arith}
 use borrow.Author.Needs.{needs}
-use Rattle.feed.specs.Feed.{classCount, sizeOf}
+use Rattle.feed.specs.Feed.{classCount}
 use Rattle.feed.proofs.Words.{class-size, label-size}
 use Rattle.feed.proofs.size_at.Statement.{statement}
 use Rattle.feed.proofs.size_at.Tie as tie

@@ -1,6 +1,5 @@
 -- `feed::table_span` meets its contract. The loop's invariant: the table k is the table k - j of those from j on, which start at `start`.
 -- Assumes nothing.
-use borrow.Author.Needs.{needs}
 use mathlib.Core.Path.{_≡_, _∙_}
 use mathlib.Core.List.{[]}
 use Prim.Native.Nat.{_+_, _*_, _-_, _<_, _≤_}
