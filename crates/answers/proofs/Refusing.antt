@@ -1,23 +1,24 @@
 -- Refusing: an answer other than `Accepted` refuses.
 --
--- In order: that it refuses; an answer and a check after it. Assumes nothing.
+-- In order: that it refuses; whether it is 12; an answer and a check after it. Assumes nothing.
 use Prim.{tt}
 use mathlib.Core.Path.{_≡_, refl, sym}
-use mathlib.Core.Bool.{false}
+use mathlib.Core.Bool.{true, false}
 use mathlib.Core.List.{List, [], _∷_}
+use lib.Dec.{eqb}
 use Prim.Native.Nat.{ℕ}
 use types.Run.{OneOf, miss}
 use denote.Enum.Declared.{tagOf}
-use Rattle.answers.specs.Verdict.{Verdict, _then_, isAccepted}
+use Rattle.answers.specs.Verdict.{Verdict, number, _then_, isAccepted}
 use Rattle.answers.specs.Answers.{verdictOf}
 use Rattle.answers.specs.declared.Answer.{Answer}
-use Rattle.answers.specs.declared.Answer.the-variants.{Accepted, FeedLength, Ceiling, Ascent, Sides, DrawingLength, Missing, Unpicked, ListLength, Invalid, Full, Large, TooMany, Short, Breach}
+use Rattle.answers.specs.declared.Answer.the-variants.{Accepted, FeedLength, Ceiling, Ascent, Sides, DrawingLength, Missing, Unpicked, ListLength, Invalid, Full, Large, TooMany, Short, Breach, TooWide}
 use Rattle.answers.proofs.Answer.{the-type}
 use Rattle.answers.proofs.Verdict.{refused-first}
 
 -- the tags of the refusals, as the compiler numbers them
 abbrev pub refusals : List ℕ
-refusals = 1 ∷ 2 ∷ 3 ∷ 4 ∷ 5 ∷ 6 ∷ 7 ∷ 8 ∷ 9 ∷ 10 ∷ 11 ∷ 12 ∷ 13 ∷ 14 ∷ []
+refusals = 1 ∷ 2 ∷ 3 ∷ 4 ∷ 5 ∷ 6 ∷ 7 ∷ 8 ∷ 9 ∷ 10 ∷ 11 ∷ 12 ∷ 13 ∷ 14 ∷ 15 ∷ []
 
 pub refuses : (a : Answer) → OneOf refusals (tagOf the-type a) → false ≡ isAccepted (verdictOf a)
 unfolding isAccepted verdictOf
@@ -36,6 +37,34 @@ refuses (Large i) o = refl
 refuses TooMany o = refl
 refuses (Short n) o = refl
 refuses (Breach line) o = refl
+refuses TooWide o = refl
+
+-- the tags of all answers but 12
+abbrev others : List ℕ
+others = 0 ∷ 1 ∷ 2 ∷ 3 ∷ 4 ∷ 5 ∷ 6 ∷ 7 ∷ 8 ∷ 9 ∷ 10 ∷ 11 ∷ 13 ∷ 14 ∷ 15 ∷ []
+
+pub is-twelve : {a : Answer} → a ≡ TooMany → true ≡ eqb (number (verdictOf a)) 12
+unfolding number verdictOf
+is-twelve e = rw e
+
+pub not-twelve : (a : Answer) → OneOf others (tagOf the-type a) → false ≡ eqb (number (verdictOf a)) 12
+unfolding number verdictOf
+not-twelve Accepted o = refl
+not-twelve FeedLength o = refl
+not-twelve (Ceiling p) o = refl
+not-twelve (Ascent p) o = refl
+not-twelve (Sides p) o = refl
+not-twelve DrawingLength o = refl
+not-twelve (Missing p) o = refl
+not-twelve Unpicked o = refl
+not-twelve ListLength o = refl
+not-twelve (Invalid i) o = refl
+not-twelve (Full i) o = refl
+not-twelve (Large i) o = refl
+not-twelve TooMany o = absurd (miss others 12 tt o)
+not-twelve (Short n) o = refl
+not-twelve (Breach line) o = refl
+not-twelve TooWide o = refl
 
 -- an answer and a check after it: one that accepts leaves the verdict to the check, any other stands
 pub leaves : {a : Answer} (v : Verdict) → a ≡ Accepted → v ≡ verdictOf a then v

@@ -1,7 +1,7 @@
 -- Answers: the number and the place of each answer of the code (document 01, Refusals). Assumes nothing.
 use Rattle.answers.specs.Verdict.{Verdict, accepted, refused}
 use Rattle.answers.specs.declared.Answer.{Answer}
-use Rattle.answers.specs.declared.Answer.the-variants.{Accepted, FeedLength, Ceiling, Ascent, Sides, DrawingLength, Missing, Unpicked, ListLength, Invalid, Full, Large, TooMany, Short, Breach}
+use Rattle.answers.specs.declared.Answer.the-variants.{Accepted, FeedLength, Ceiling, Ascent, Sides, DrawingLength, Missing, Unpicked, ListLength, Invalid, Full, Large, TooMany, Short, Breach, TooWide}
 
 unfoldable pub verdictOf : Answer → Verdict
 verdictOf Accepted = accepted
@@ -24,3 +24,5 @@ verdictOf TooMany = refused 12 0
 verdictOf (Short n) = refused 13 n
 -- "The sheet's author"
 verdictOf (Breach line) = refused 14 line
+-- "The call refuses with 15, place 0, when more than five nodes are picked" (document 02, E2)
+verdictOf TooWide = refused 15 0

@@ -1,7 +1,8 @@
 // Answers: every outcome of a call, once. A new refusal is a line of the enum, a line of `verdictOf` and a line of `number_and_place`.
 
 ghost use mathlib.Core.Path.{_≡_};
-ghost use Rattle.answers.specs.Verdict.{isAccepted, Says};
+ghost use lib.Dec.{eqb};
+ghost use Rattle.answers.specs.Verdict.{number, isAccepted, Says};
 ghost use Rattle.answers.specs.Answers.{verdictOf};
 
 // How a call ends: each refusal has its number in document 01 and the values that it gives there.
@@ -30,12 +31,14 @@ pub enum Answer {
     Full(u32),
     // 11: this register has more than 65,536 pairs.
     Large(u32),
-    // 12: the row slice is too short for the rows.
+    // 12: the row slice is too short for the rows, or the page buffer for the pages.
     TooMany,
     // 13: the list is too short for so many instructions.
     Short(u32),
     // 14: the sheet has a breach at this line.
     Breach(u32),
+    // 15: more nodes are picked than a page has columns.
+    TooWide,
 }
 
 // Whether the answer accepts.
@@ -44,6 +47,16 @@ pub fn accepts(answer: Answer) -> bool
 {
     match answer {
         Answer::Accepted => true,
+        _ => false,
+    }
+}
+
+// Whether the answer is 12, which zeroes what was lent for the rows.
+pub fn zeroes(answer: Answer) -> bool
+    ensures { λ r. ⌜ r ≡ eqb (number (verdictOf answer)) 12 ⌝ }
+{
+    match answer {
+        Answer::TooMany => true,
         _ => false,
     }
 }
@@ -71,6 +84,7 @@ pub fn number_and_place(answer: Answer) -> Said
         Answer::TooMany => Said(12, 0),
         Answer::Short(n) => Said(13, n),
         Answer::Breach(line) => Said(14, line),
+        Answer::TooWide => Said(15, 0),
     }
 }
 

@@ -1,6 +1,6 @@
--- Limits: every ceiling of document 01, and the mark of a two-way label, once for the definitions.
+-- Limits: every ceiling of document 01, the mark of a two-way label and the measures of a page, once for the definitions.
 --
--- In order: of a feed; of a drawing; of an instruction list and its registers; of a sheet; all of them. Assumes nothing.
+-- In order: of a feed; of a drawing; of an instruction list and its registers; of a sheet; of a page; all of them. Assumes nothing.
 use Prim.Native.Nat.{ℕ, _+_, _*_}
 use Rattle.limits.specs.declared.Limits.{Limits}
 
@@ -68,6 +68,19 @@ mostLetters = 12
 abbrev pub mostDigits : ℕ
 mostDigits = 5
 
+-- "Lines are exactly 65 characters and a line feed: up to five columns of 13"; "A page has the names, 50 rows" (document 02, E2)
+abbrev pub mostColumns : ℕ
+mostColumns = 5
+
+abbrev pub columnWidth : ℕ
+columnWidth = 13
+
+abbrev pub lineWidth : ℕ
+lineWidth = 65
+
+abbrev pub pageRows : ℕ
+pageRows = 50
+
 -- as the code has them
 unfoldable pub allLimits : Limits
 allLimits = record {
@@ -90,4 +103,8 @@ allLimits = record {
   rows = sheetRows;
   letters = mostLetters;
   digits = mostDigits;
+  columns = mostColumns;
+  column = columnWidth;
+  line = lineWidth;
+  page = pageRows;
 }

@@ -1,4 +1,4 @@
-// Limits: every ceiling of document 01, and the mark of a two-way label, once for the code. `specs/Limits.antt` has them once for the definitions; `all_limits` shows that the two agree.
+// Limits: every ceiling of document 01, the mark of a two-way label and the measures of a page, once for the code. `specs/Limits.antt` has them once for the definitions; `all_limits` shows that the two agree.
 
 ghost use mathlib.Core.Path.{_≡_};
 ghost use Rattle.limits.specs.Limits.{allLimits};
@@ -49,6 +49,15 @@ pub const LETTERS: usize = 12;
 
 pub const DIGITS: usize = 5;
 
+// The columns of a page, the characters of a column and of a line, and the most rows of a page.
+pub const COLUMNS: usize = 5;
+
+pub const COLUMN_WIDTH: usize = 13;
+
+pub const LINE_WIDTH: usize = COLUMNS * COLUMN_WIDTH;
+
+pub const PAGE_ROWS: usize = 50;
+
 // All of them.
 pub struct Limits {
     pub classes: usize,
@@ -70,6 +79,10 @@ pub struct Limits {
     pub rows: usize,
     pub letters: usize,
     pub digits: usize,
+    pub columns: usize,
+    pub column: usize,
+    pub line: usize,
+    pub page: usize,
 }
 
 // The limits of the code are those of the definitions.
@@ -96,5 +109,9 @@ pub fn all_limits() -> Limits
         rows: SHEET_ROWS,
         letters: LETTERS,
         digits: DIGITS,
+        columns: COLUMNS,
+        column: COLUMN_WIDTH,
+        line: LINE_WIDTH,
+        page: PAGE_ROWS,
     }
 }

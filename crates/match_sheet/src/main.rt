@@ -1,11 +1,18 @@
-// The sheet program: reads a sheet from standard input and prints its listing. Where the input cannot be read it prints nothing; that, or a
-// listing that could not be written whole, it says on standard error.
+// The sheet program: reads a sheet from standard input and prints its listing, or its pages where the first argument is `--pages`. Where the input
+// cannot be read it prints nothing; that, or a text that could not be written whole, it says on standard error.
 
+use answers::accepts;
 use sheet::DECIDING_BYTES;
-use sheet::LONGEST_LISTING;
 use sheet::sheet_query;
+use sheet_listing::write_refusal;
+use sheet_pages::LONGEST_PAGES;
+use sheet_pages::sheet_pages;
+use sheet_text::Span;
+use sheet_text::same_text;
 ghost use lib.ListN.{length, take};
-ghost use Rattle.match_sheet.specs.Program.{Within, Room, Lists};
+ghost use Rattle.sheet.specs.SheetQuery.{sheetListing};
+ghost use Rattle.sheet_pages.specs.SheetPages.{printedPages};
+ghost use Rattle.match_sheet.specs.Program.{Within, Room, Prints, printed};
 
 enum Input {
     // So many bytes were read.
@@ -34,11 +41,48 @@ fn read_input(to: &mut [u8]) -> Input
 }
 
 // The listing of an input of which n bytes were read, and its length.
-fn list(listing: &mut [u8], input: &[u8], n: usize) -> usize
-    requires { ⌜ Room (now listing) (now input) n ⌝ }
-    ensures { λ r. ⌜ Lists (length (now (input .entry))) (take n (now (input .entry))) (now (listing .exit)) r ⌝ }
+fn list(out: &mut [u8], input: &[u8], n: usize) -> usize
+    requires { ⌜ Room (now out) (now input) n ⌝ }
+    ensures { λ r. ⌜ Prints sheetListing (length (now (input .entry))) (take n (now (input .entry))) (now (out .exit)) r ⌝ }
 {
-    sheet_query(&input[0..n], listing)
+    sheet_query(&input[0..n], out)
+}
+
+// The pages of such an input, or the line of its refusal.
+fn page(out: &mut [u8], input: &[u8], n: usize) -> usize
+    requires { ⌜ Room (now out) (now input) n ⌝ }
+    ensures { λ r. ⌜ Prints printedPages (length (now (input .entry))) (take n (now (input .entry))) (now (out .exit)) r ⌝ }
+{
+    let given = sheet_pages(&input[0..n], out);
+    let answer = given.answer;
+    if accepts(answer) {
+        return given.extent;
+    }
+    write_refusal(out, answer)
+}
+
+// The one or the other.
+fn text(out: &mut [u8], input: &[u8], n: usize, pages: bool) -> usize
+    requires { ⌜ Room (now out) (now input) n ⌝ }
+    ensures { λ r. ⌜ Prints (printed pages) (length (now (input .entry))) (take n (now (input .entry))) (now (out .exit)) r ⌝ }
+{
+    if pages {
+        return page(out, input, n);
+    }
+    list(out, input, n)
+}
+
+// Whether the first argument asks for pages.
+fn wants_pages() -> bool {
+    let option = b"--pages";
+    let mut first = [0u8; 7];
+    let n = os::arg(1, &mut first);
+    same_text(
+        &first,
+        Span { start: 0, end: n },
+        option,
+        Span { start: 0, end: 7 },
+    )
 }
 
 fn main() {
@@ -48,9 +92,9 @@ fn main() {
             io::write_all(2, b"match_sheet: cannot read standard input\n");
         }
         Input::Read(n) => {
-            let mut listing = [0u8; LONGEST_LISTING];
-            let m = list(&mut listing, &input, n);
-            if io::write_all(1, &listing[0..m]) {
+            let mut out = [0u8; LONGEST_PAGES];
+            let m = text(&mut out, &input, n, wants_pages());
+            if io::write_all(1, &out[0..m]) {
                 return;
             }
             io::write_all(2, b"match_sheet: cannot write standard output\n");

@@ -11,7 +11,8 @@ ghost use Rattle.query.specs.Answers.{slices};
 ghost use Rattle.answers.specs.Verdict.{Says};
 ghost use Rattle.sheet_listing.specs.Listing.{listed};
 ghost use Rattle.sheet.specs.SheetQuery.{sheetQuery};
-ghost use Rattle.matcher.specs.Calls.{Translates, Answers};
+ghost use Rattle.sheet_pages.specs.SheetPages.{sheetPages};
+ghost use Rattle.matcher.specs.Calls.{Translates, Answers, GivesPages};
 
 // Checks a feed: 1 to 4.
 #[no_mangle]
@@ -81,4 +82,20 @@ pub extern "C" fn matcher_sheet_query(sheet: &[u8], listing: &mut [u8]) -> usize
     ensures { λ r. ⌜ listed r (now (listing .exit)) ≡ sheetQuery (now (sheet .entry)) (now (listing .entry)) ⌝ }
 {
     sheet::sheet_query(sheet, listing)
+}
+
+// The pages of a sheet's rows: 3, 5 to 7, 10 to 12, 14 and 15.
+#[no_mangle]
+pub extern "C" fn matcher_sheet_pages(
+    sheet: &[u8],
+    pages: &mut [u8],
+    place: &mut u32,
+    length: &mut usize,
+) -> u32
+    ensures { λ r. ⌜ GivesPages (sheetPages (now (sheet .entry)) (now (pages .entry))) r (now (place .exit)) (now (pages .exit)) (now (length .exit)) ⌝ }
+{
+    let given = sheet_pages::sheet_pages(sheet, pages);
+    *length = given.extent;
+    let answer = given.answer;
+    say(answer, place)
 }

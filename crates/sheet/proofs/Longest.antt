@@ -1,18 +1,18 @@
 -- Longest: how many bytes of a sheet decide its listing, and how long a listing can be.
 --
--- In order: a sheet too long, cut; the digits of a number; a line; the picked names; the lines of rows; the objects of a row; the listing of a
+-- In order: a sheet too long, cut; a line; the picked names; the lines of rows; the objects of a row; the listing of a
 -- sheet; the call, with any slice and with one in which every listing fits. Assumes nothing.
-use Prim.Native.Nat.{ℕ, zero, suc, _+_, _*_, _/_, _%_, _^_, _<_, _≤_}
+use Prim.Native.Nat.{ℕ, _+_, _*_, _<_, _≤_}
 use native.Mathlib.Omega.{arith}
-use native.Mathlib.Nat.{pow-suc, mul-suc, suc-mul}
+use native.Mathlib.Nat.{mul-suc, suc-mul}
 use native.Mathlib.Decide.{decLt}
 use mathlib.Core.Bool.{Bool, true, false, cond}
 use mathlib.Core.Path.{_≡_, refl, sym, ap, _∙_}
 use mathlib.Core.List.{List, [], _∷_, map, flatMap, List·Memᴰ·head as here, List·Memᴰ·tail as there, List·Memᴰ·not-nil}
-use lib.Dec.{leb, ltb}
+use lib.Dec.{leb}
 use lib.ListN.{length, getD, take, drop, length-append, length-map, length-take}
 use lib.Seq.{take-all, take-append-seam}
-use borrow.Author.Tests.{lt-ltb, le-ltb, le-leb}
+use borrow.Author.Tests.{le-leb}
 use Rattle.limits.specs.Limits.{largestObject, mostNodes, mostBytes, mostLetters, mostDigits}
 use Rattle.tables.specs.Lists.{_∈_}
 use Rattle.answers.specs.Verdict.{Verdict, accepted, refused, number, location}
@@ -26,56 +26,31 @@ use Rattle.drawing.specs.Embeddings.{picked, rows}
 use Rattle.drawing.proofs.Checks.{drawing-feed}
 use Rattle.drawing.proofs.Embeddings.{in-rows}
 use Rattle.query.specs.Query.{pickCount, query}
-use Rattle.sheet_text.specs.Text.{bytes, digits, digitsBefore}
+use Rattle.sheet_text.specs.Text.{bytes, digits}
 use Rattle.sheet_reader.specs.Sheet.{Outcome, readSheet, feedOf}
 use Rattle.sheet_reader.proofs.Words.{sheet-long}
-use Rattle.sheet_listing.specs.Listing.{line, pickedNames, listing, refusal, Listed, listedIn, listed}
+use Rattle.sheet_writer.specs.Picked.{pickedNames}
+use Rattle.sheet_writer.proofs.Digits.{object-digits, word-digits}
+use Rattle.sheet_writer.proofs.Picked.{picked-among as names-among}
+use Rattle.sheet_listing.specs.Listing.{line, listing, refusal, Listed, listedIn, listed}
 use Rattle.sheet_listing.specs.inner.Written.{rowLines}
 use Rattle.sheet.specs.SheetQuery.{ownSlices, answerText, queryText, outcomeText, sheetListing, sheetQuery, longestListing, decidingBytes}
-use Rattle.sheet.proofs.NodeNames.{Shorter, Sheet, broken, whole, sheet-few}
+use Rattle.sheet.proofs.NodeNames.{Shorter, Sheet, broken, whole, sheet-few, few-short}
 use Rattle.sheet.proofs.Picks.{row-length}
 use Rattle.sheet.proofs.Printing.{drawing-accepted, rows-fit, some-pick}
 
 -- ---- a sheet too long, cut
 
+pub cut-read : (sheet : List ℕ) (n : ℕ) → decidingBytes ≤ n → readSheet (take n sheet) ≡ readSheet sheet
+cut-read sheet n enough = by (decLt mostBytes (length sheet))
+  where
+    by : Dec (mostBytes < length sheet) → readSheet (take n sheet) ≡ readSheet sheet
+    by (yes h) = let l = length-take n sheet in sheet-long (take n sheet) (omega arith) ∙ sym (sheet-long sheet h)
+    by (no h) = ap readSheet (take-all n sheet (omega arith))
+
 pub cut-same : (sheet : List ℕ) (n : ℕ) → decidingBytes ≤ n → sheetListing (take n sheet) ≡ sheetListing sheet
 unfolding sheetListing
-cut-same sheet n enough = by (decLt mostBytes (length sheet))
-  where
-    by : Dec (mostBytes < length sheet) → outcomeText (readSheet (take n sheet)) ≡ outcomeText (readSheet sheet)
-    by (yes h) = let l = length-take n sheet in ap outcomeText (sheet-long (take n sheet) (omega arith) ∙ sym (sheet-long sheet h))
-    by (no h) = ap (λ (s : List ℕ). outcomeText (readSheet s)) (take-all n sheet (omega arith))
-
--- ---- the digits of a number
-
-before-few : (most k n : ℕ) (after : List ℕ) → n < 10 ^ suc k → length (digitsBefore most n after) ≤ suc k + length after
-unfolding digitsBefore
-before-few zero k n after h = omega arith
-before-few (suc most) k n after h = by (decLt n 10) k h (λ k l. before-few most k (n / 10) ((48 + n % 10) ∷ after) l)
-  where
-    by : Dec (n < 10) → (k : ℕ) → n < 10 ^ suc k → ((k : ℕ) → n / 10 < 10 ^ suc k → length (digitsBefore most (n / 10) ((48 + n % 10) ∷ after)) ≤ suc k + length ((48 + n % 10) ∷ after))
-        → length (cond (ltb n 10) ((48 + n) ∷ after) (digitsBefore most (n / 10) ((48 + n % 10) ∷ after))) ≤ suc k + length after
-    by (yes l) k h rest = rw (lt-ltb n 10 l) (omega arith)
-    by (no l) zero h rest = absurd (omega arith)
-    by (no l) (suc k) h rest = let p = pow-suc 10 (suc k) in let r = rest k (omega arith) in rw (le-ltb n 10 (omega arith)) (omega arith)
-
-before-most : (most n : ℕ) (after : List ℕ) → length (digitsBefore most n after) ≤ most + length after
-unfolding digitsBefore
-before-most zero n after = omega arith
-before-most (suc most) n after = by (ltb n 10) (before-most most (n / 10) ((48 + n % 10) ∷ after))
-  where
-    by : (b : Bool) → length (digitsBefore most (n / 10) ((48 + n % 10) ∷ after)) ≤ most + length ((48 + n % 10) ∷ after)
-        → length (cond b ((48 + n) ∷ after) (digitsBefore most (n / 10) ((48 + n % 10) ∷ after))) ≤ suc most + length after
-    by true h = omega arith
-    by false h = omega arith
-
-object-digits : (n : ℕ) → n ≤ largestObject → length (digits n) ≤ mostDigits
-unfolding digits
-object-digits n h = let d = before-few 10 4 n [] (omega arith) in omega arith
-
-word-digits : (n : ℕ) → length (digits n) ≤ 10
-unfolding digits
-word-digits n = let d = before-most 10 n [] in omega arith
+cut-same sheet n enough = ap outcomeText (cut-read sheet n enough)
 
 -- ---- a line
 
@@ -104,18 +79,8 @@ picked-few (n ∷ ns) (v ∷ vs) = by (isPicked v) (picked-few ns vs)
     by false h = omega arith
 
 picked-shorter : (w : ℕ) (ns : List (List ℕ)) (vs : List Node) → Shorter w ns → Shorter w (pickedNames ns vs)
-unfolding pickedNames Shorter
-picked-shorter w [] vs h = h
-picked-shorter w (n ∷ ns) [] h = λ f m. absurd (List·Memᴰ·not-nil m)
-picked-shorter w (n ∷ ns) (v ∷ vs) h = by (isPicked v) (picked-shorter w ns vs (λ f m. h f (there m)))
-  where
-    by : (b : Bool) → Shorter w (pickedNames ns vs) → Shorter w (cond b (n ∷ pickedNames ns vs) (pickedNames ns vs))
-    by true rest = λ f m. one m
-      where
-        one : {f : List ℕ} → f ∈ (n ∷ pickedNames ns vs) → length f < w
-        one (here e) = h _ (here e)
-        one (there m) = rest _ m
-    by false rest = rest
+unfolding Shorter
+picked-shorter w ns vs h = λ f m. h f (names-among ns vs m)
 
 names-size : (ns : List (List ℕ)) (vs : List Node) → length ns ≤ mostNodes → Shorter (mostLetters + 1) ns → length (line (pickedNames ns vs)) ≤ mostNodes * (mostLetters + 1)
 unfolding line
@@ -128,9 +93,9 @@ names-size ns vs few short = by (pickedNames ns vs) (picked-few ns vs) (picked-s
 -- ---- the lines of rows
 
 -- a row of objects, one for each pick
-record Row (picks : ℕ) (r : List ℕ) : Type 0 where
-  size : length r ≡ picks
-  objects : (x : ℕ) → x ∈ r → x ≤ largestObject
+pub record Row (picks : ℕ) (r : List ℕ) : Type 0 where
+  pub size : length r ≡ picks
+  pub objects : (x : ℕ) → x ∈ r → x ≤ largestObject
 
 digits-shorter : (r : List ℕ) → ((x : ℕ) → x ∈ r → x ≤ largestObject) → Shorter (mostDigits + 1) (map digits r)
 unfolding Shorter
@@ -173,7 +138,7 @@ picked-among (v ∷ vs) (y ∷ at) {x} m = by (isPicked v) (picked-among vs at) 
     by false rest m = there (rest m)
 
 module _ (feed : List ℕ) (p : Pattern) (ok : checkFeed feed ≡ accepted) where
-  rows-of-objects : (r : List ℕ) → r ∈ rows feed p → Row (pickCount p) r
+  pub rows-of-objects : (r : List ℕ) → r ∈ rows feed p → Row (pickCount p) r
   rows-of-objects r m = record { size = row-length feed p (λ k u v n. class-sides feed ok k n) r m; objects = λ x n. small x n }
     where
       small : (x : ℕ) → x ∈ r → x ≤ largestObject
@@ -186,7 +151,7 @@ module _ (feed : List ℕ) (p : Pattern) (ok : checkFeed feed ≡ accepted) wher
 
 -- ---- the listing of a sheet
 
-refusal-size : (v : Verdict) → length (refusal v) ≤ longestListing
+pub refusal-size : (v : Verdict) → length (refusal v) ≤ longestListing
 unfolding refusal bytes Shorter
 refusal-size v =
     let s = line-size 11 (bytes "refused") (digits (number v) ∷ digits (location v) ∷ []) (λ f m. short m) in
@@ -218,7 +183,7 @@ listing-fits sheet = by (sheet-few sheet)
   where
     by : {o : Outcome} → Sheet o → length (outcomeText o) ≤ longestListing
     by (broken {at = at}) = refusal-size (refused 14 at)
-    by (whole {r = r} g) = answer-size (r .names) (feedOf r) (r .drawing) (omega (arith, g .each, g .few)) (g .short) _ refl
+    by (whole {r = r} g) = answer-size (r .names) (feedOf r) (r .drawing) (omega (arith, g .each, g .few)) (few-short g) _ refl
 
 -- ---- the call
 

@@ -1,11 +1,11 @@
--- NodeNames: a sheet that can be read gives at most 12 node names, of at most 12 letters.
+-- NodeNames: a sheet that can be read gives at most 12 node names, each of them a name of 1 to 12 letters.
 --
--- In order: what holds of the names; a line keeps it; all lines. Assumes nothing.
+-- In order: what holds of the names; a line keeps it; all lines; how long a name is. Assumes nothing.
 use Prim.Native.Nat.{ℕ, zero, suc, _+_, _<_, _≤_}
 use native.Mathlib.Omega.{arith}
 use mathlib.Core.Bool.{Bool, true, false, cond, _&&_}
 use mathlib.Core.Logic.{⊎-elim}
-use mathlib.Core.Path.{_≡_, refl, ap}
+use mathlib.Core.Path.{_≡_, refl, ap, _∙_}
 use mathlib.Core.List.{List, [], _∷_, List·Memᴰ·not-nil, List·Memᴰ·eq-of-singleton}
 use mathlib.Core.Option.{Option, none, some}
 use lib.Dec.{eqb, leb}
@@ -19,19 +19,15 @@ use Rattle.sheet_text.specs.Text.{split, fields, isName, within}
 use Rattle.sheet_lines.specs.Reading.{Reading, nothing, allow, turnTo, withClasses, withLabels, withNode, withEdge, readClass, readLabel, readNode, readEdge, readValues, endSection, readOpened, readHeader, byStage, readLine}
 use Rattle.sheet_reader.specs.Sheet.{Outcome, read, breach, finish, continue, endsAt, readLines, readSheet}
 
--- every name, or any other field, is shorter than w
-unfoldable pub Shorter : ℕ → List (List ℕ) → Type 0
-Shorter w fs = (f : List ℕ) → f ∈ fs → length f < w
-
--- at most 12 names of at most 12 letters, one for each node
+-- at most 12 names, one for each node
 pub record Few (r : Reading) : Type 0 where
   pub each : length (r .names) ≡ length (r .drawing .nodes)
   pub few : length (r .drawing .nodes) ≤ mostNodes
-  pub short : Shorter (mostLetters + 1) (r .names)
+  pub letters : (n : List ℕ) → n ∈ r .names → isName n ≡ true
 
 few-nothing : Few nothing
-unfolding nothing Shorter
-few-nothing = record { each = refl; few = omega arith; short = λ f m. absurd (List·Memᴰ·not-nil m) }
+unfolding nothing
+few-nothing = record { each = refl; few = omega arith; letters = λ n m. absurd (List·Memᴰ·not-nil m) }
 
 -- ---- a line
 
@@ -45,30 +41,23 @@ unfolding allow
 allowed true r h = passes (h refl)
 allowed false r h = breaks
 
-name-short : (n : List ℕ) → isName n ≡ true → length n < mostLetters + 1
-unfolding isName within
-name-short n t =
-    let w = both-true (leb 1 (length n) && leb (length n) mostLetters) _ .0 t .0 in
-    let l = leb-is (length n) mostLetters .0 (both-true (leb 1 (length n)) (leb (length n) mostLetters) .0 w .1) in
-    omega arith
-
 module _ {r : Reading} (g : Few r) where
   few-node : (n : List ℕ) (v : Node) → isName n ≡ true → length (r .drawing .nodes) < mostNodes → Few (withNode n v r)
-  unfolding withNode Shorter
+  unfolding withNode
   few-node n v name l =
       let a = length-append (r .names) (n ∷ []) in
       let b = length-append (r .drawing .nodes) (v ∷ []) in
       record {
         each = omega (arith, g .each);
         few = omega arith;
-        short = λ f m. ⊎-elim (g .short f) (λ k. let e = ap length (List·Memᴰ·eq-of-singleton k) in let s = name-short n name in omega arith) (in-append (r .names) (n ∷ []) .0 m);
+        letters = λ f m. ⊎-elim (g .letters f) (λ k. ap isName (List·Memᴰ·eq-of-singleton k) ∙ name) (in-append (r .names) (n ∷ []) .0 m);
       }
 
   class-few : (fs : List (List ℕ)) → Line (readClass r fs)
   unfolding readClass withClasses
   class-few [] = breaks
   class-few (c ∷ []) = breaks
-  class-few (c ∷ o ∷ []) = allowed _ _ (λ t. record { each = g .each; few = g .few; short = g .short })
+  class-few (c ∷ o ∷ []) = allowed _ _ (λ t. record { each = g .each; few = g .few; letters = g .letters })
   class-few (c ∷ o ∷ x ∷ xs) = breaks
 
   label-few : (fs : List (List ℕ)) → Line (readLabel r fs)
@@ -76,7 +65,7 @@ module _ {r : Reading} (g : Few r) where
   label-few [] = breaks
   label-few (l ∷ []) = breaks
   label-few (l ∷ u ∷ []) = breaks
-  label-few (l ∷ u ∷ v ∷ []) = allowed _ _ (λ t. record { each = g .each; few = g .few; short = g .short })
+  label-few (l ∷ u ∷ v ∷ []) = allowed _ _ (λ t. record { each = g .each; few = g .few; letters = g .letters })
   label-few (l ∷ u ∷ v ∷ x ∷ xs) = breaks
 
   node-few : (fs : List (List ℕ)) → Line (readNode r fs)
@@ -92,12 +81,12 @@ module _ {r : Reading} (g : Few r) where
   edge-few [] = breaks
   edge-few (l ∷ []) = breaks
   edge-few (l ∷ s ∷ []) = breaks
-  edge-few (l ∷ s ∷ t ∷ []) = allowed _ _ (λ t. record { each = g .each; few = g .few; short = g .short })
+  edge-few (l ∷ s ∷ t ∷ []) = allowed _ _ (λ t. record { each = g .each; few = g .few; letters = g .letters })
   edge-few (l ∷ s ∷ t ∷ x ∷ xs) = breaks
 
   turn-few : (s : ℕ) (o : Bool) → Few (turnTo s o r)
   unfolding turnTo
-  turn-few s o = record { each = g .each; few = g .few; short = g .short }
+  turn-few s o = record { each = g .each; few = g .few; letters = g .letters }
 
   values-few : (fs : List (List ℕ)) → Line (readValues r fs)
   unfolding readValues
@@ -160,3 +149,20 @@ sheet-few s = by (leb (length s) mostBytes)
     by : (b : Bool) → Sheet (cond b (readLines 1 nothing (split 10 s .first) (split 10 s .rest)) (breach 0))
     by true = lines-few 1 few-nothing (split 10 s .first) (split 10 s .rest)
     by false = broken
+
+-- ---- how long a name is
+
+-- every name, or any other field, is shorter than w
+unfoldable pub Shorter : ℕ → List (List ℕ) → Type 0
+Shorter w fs = (f : List ℕ) → f ∈ fs → length f < w
+
+name-short : (n : List ℕ) → isName n ≡ true → length n < mostLetters + 1
+unfolding isName within
+name-short n t =
+    let w = both-true (leb 1 (length n) && leb (length n) mostLetters) _ .0 t .0 in
+    let l = leb-is (length n) mostLetters .0 (both-true (leb 1 (length n)) (leb (length n) mostLetters) .0 w .1) in
+    omega arith
+
+pub few-short : {r : Reading} → Few r → Shorter (mostLetters + 1) (r .names)
+unfolding Shorter
+few-short g = λ f m. name-short f (g .letters f m)

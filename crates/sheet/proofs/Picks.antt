@@ -14,8 +14,8 @@ use Rattle.drawing.specs.Embeddings.{picked, rows}
 use Rattle.drawing.proofs.Embeddings.{in-rows}
 use Rattle.query_rows.specs.Rows.{rowWords}
 use Rattle.query.specs.Query.{pickCount}
-use Rattle.sheet_listing.specs.inner.Written.{rowsOf}
-use Rattle.sheet_listing.proofs.Rows.{rows-joined}
+use Rattle.sheet_writer.specs.Parts.{partsOf}
+use Rattle.sheet_writer.proofs.Parts.{parts-joined}
 
 -- a row has one object for each picked node
 picked-length : (vs : List Node) (at : List ℕ) → length at ≡ length vs → length (picked vs at) ≡ length (keep isPicked vs)
@@ -41,5 +41,5 @@ module _ (feed : List ℕ) (p : Pattern) (sides : (k u v : ℕ) → pair u v ∈
       ap (λ (x : List ℕ). length x) (t .2) ∙ picked-length (p .nodes) (t .0) (t .1 .size)
 
   -- the words of the rows, cut into rows again
-  pub rows-back : 1 ≤ pickCount p → rowsOf (pickCount p) (rowWords (rows feed p)) ≡ rows feed p
-  rows-back some = ap (rowsOf (pickCount p)) (joined (rows feed p)) ∙ rows-joined (pickCount p) (rows feed p) some row-length
+  pub rows-back : 1 ≤ pickCount p → partsOf (pickCount p) (rowWords (rows feed p)) ≡ rows feed p
+  rows-back some = ap (partsOf (pickCount p)) (joined (rows feed p)) ∙ parts-joined (pickCount p) (rows feed p) some row-length

@@ -33,8 +33,10 @@ use Rattle.sheet_text.specs.inner.Parts.{namesOf}
 use Rattle.sheet_reader.specs.declared.SheetRead.{SheetRead}
 use Rattle.sheet_reader.specs.Sheet.{Outcome, read, breach, readSheet}
 use Rattle.sheet_reader.specs.inner.Answers.{verdictIn, Given as Read, Answers}
-use Rattle.sheet_listing.specs.Listing.{pickedNames, listing, refusal, listedIn}
-use Rattle.sheet_listing.specs.inner.Written.{rowsOf, Named}
+use Rattle.sheet_writer.specs.Parts.{partsOf}
+use Rattle.sheet_writer.specs.Picked.{pickedNames}
+use Rattle.sheet_writer.specs.inner.Written.{Named}
+use Rattle.sheet_listing.specs.Listing.{listing, refusal, listedIn}
 use Rattle.sheet.specs.SheetQuery.{ownSlices, answerText, queryText, outcomeText, sheetListing, sheetQuery}
 use Rattle.sheet.specs.inner.Printing.{Asked}
 use Rattle.sheet.proofs.Picks.{rows-back}
@@ -59,7 +61,7 @@ module _ (feed : List ℕ) (p : Pattern) (ok : query feed (drawingWords p) ownSl
   unfolding query
   drawing-accepted = then-accepted (checkDrawing feed (drawingWords p)) _ .0 (begun _ _ _ ownSlices _ _ _ ok) .0
 
-  demand : ThirdDemand feed (drawingWords p) ownSlices
+  pub demand : ThirdDemand feed (drawingWords p) ownSlices
   demand = third-demand feed (drawingWords p) ownSlices drawing-accepted own-list
 
   pub rows-fit : length (rows feed p) * pickCount p ≤ sheetRows
@@ -76,9 +78,9 @@ module _ (feed : List ℕ) (p : Pattern) (ok : query feed (drawingWords p) ownSl
       some {xs = []} m = elim m [ ]
       some {xs = y ∷ ys} m = omega arith
 
-  pub rows-are : rowsOf (pickCount p) (take (query feed (drawingWords p) ownSlices .extent) (query feed (drawingWords p) ownSlices .out)) ≡ rows feed p
+  pub rows-are : partsOf (pickCount p) (take (query feed (drawingWords p) ownSlices .extent) (query feed (drawingWords p) ownSlices .out)) ≡ rows feed p
   rows-are =
-      ap (rowsOf (pickCount p)) (demand .given ok) ∙ rw (pattern-back p) (rows-back feed p (λ k u v m. class-sides feed (drawing-feed feed (drawingWords p) drawing-accepted) k m) some-pick)
+      ap (partsOf (pickCount p)) (demand .given ok) ∙ rw (pattern-back p) (rows-back feed p (λ k u v m. class-sides feed (drawing-feed feed (drawingWords p) drawing-accepted) k m) some-pick)
 
 -- ---- the question, with the sheet query's slices
 
@@ -99,7 +101,7 @@ refused-text (refused n l) names feed p h = refl
 
 module _ {feed rows₁ : List ℕ} {p : Pattern} {r : Given} (a : Asked feed p rows₁ r) (names : List (List ℕ)) (out : List ℕ) where
   pub rows-listed : {picks : ℕ} → isAccepted (verdictOf (r .answer)) ≡ true → picks ≡ pickCount p
-      → listedIn (listing (pickedNames names (p .nodes)) (rowsOf picks (take (r .extent) rows₁))) out ≡ listedIn (queryText names feed p) out
+      → listedIn (listing (pickedNames names (p .nodes)) (partsOf picks (take (r .extent) rows₁))) out ≡ listedIn (queryText names feed p) out
   unfolding queryText answerText
   rows-listed t e = let ok = sym (a .verdict) ∙ accepted-is _ t in rw (e, ok, a .extent, a .out, rows-are feed p ok)
 

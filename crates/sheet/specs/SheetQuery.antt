@@ -10,7 +10,8 @@ use Rattle.drawing.specs.Drawing.{Pattern, drawingWords}
 use Rattle.drawing.specs.Embeddings.{rows}
 use Rattle.query.specs.Query.{query, Lent}
 use Rattle.sheet_reader.specs.Sheet.{Outcome, read, breach, readSheet, feedOf}
-use Rattle.sheet_listing.specs.Listing.{pickedNames, listing, refusal, Listed, listedIn}
+use Rattle.sheet_writer.specs.Picked.{pickedNames}
+use Rattle.sheet_listing.specs.Listing.{listing, refusal, Listed, listedIn}
 
 -- "The sheet query lends itself 16,384 work words, 4,096 row words and room for every instruction"
 unfoldable pub ownSlices : Lent

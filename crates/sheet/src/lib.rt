@@ -24,8 +24,8 @@ ghost use Rattle.drawing.specs.Builder.{view};
 ghost use Rattle.query.specs.Query.{pickCount};
 ghost use Rattle.sheet_text.specs.inner.Parts.{namesOf};
 ghost use Rattle.sheet_reader.specs.inner.Answers.{Answers};
+ghost use Rattle.sheet_writer.specs.inner.Written.{Named};
 ghost use Rattle.sheet_listing.specs.Listing.{listedIn, listed};
-ghost use Rattle.sheet_listing.specs.inner.Written.{Named};
 ghost use Rattle.sheet.specs.SheetQuery.{ownSlices, queryText, sheetQuery};
 ghost use Rattle.sheet.specs.inner.Printing.{Asked};
 
@@ -36,7 +36,7 @@ pub const DECIDING_BYTES: usize = SHEET_BYTES + 1;
 pub const LONGEST_LISTING: usize = NODES * (LETTERS + 1) + SHEET_ROWS * (DIGITS + 1);
 
 // How many nodes of a drawing are picked.
-fn count_picks(d: Drawing) -> usize
+pub fn count_picks(d: Drawing) -> usize
     ensures { λ r. ⌜ r ≡ pickCount (view d) ⌝ }
 {
     let n = d.node_count();
@@ -53,7 +53,7 @@ fn count_picks(d: Drawing) -> usize
 }
 
 // Asks the query, with slices of its own beside that of the rows: 16,384 work words, and room for every instruction.
-fn ask(rows: &mut [u32], feed: &[u32], d: Drawing) -> Given
+pub fn ask(rows: &mut [u32], feed: &[u32], d: Drawing) -> Given
     requires { ⌜ now rows ≡ ownSlices .out ⌝ }
     ensures { λ r. ⌜ Asked (now (feed .entry)) (view d) (now (rows .exit)) r ⌝ }
 {

@@ -1,21 +1,17 @@
--- Lines: a line, field by field, and the line of a row, number by number.
+-- Lines: a line, field by field, and the line of a refusal.
 --
--- In order: what is left of a line; the line of a row; the line of a refusal. Assumes nothing.
-use Prim.Native.Nat.{ℕ, _+_, _<_, _≤_}
+-- In order: what is left of a line; the line of a refusal. Assumes nothing.
+use Prim.Native.Nat.{ℕ, _+_, _≤_}
 use native.Mathlib.Omega.{arith}
-use mathlib.Core.Path.{_≡_, refl, ap}
+use mathlib.Core.Path.{_≡_, refl, ap, _∙_}
 use mathlib.Core.Bool.{Bool, true, false}
-use mathlib.Core.List.{List, [], _∷_, _++_, map, append-assoc}
+use mathlib.Core.List.{List, [], _∷_, _++_, append-assoc}
 use lib.Dec.{eqb}
-use lib.ListN.{length, getD}
-use lib.Seq.{slice}
 use borrow.Author.Tests.{eq-eqb, ne-eqb}
-use Rattle.tables.proofs.Parts.{slice-none, slice-next}
 use Rattle.answers.specs.Verdict.{Verdict, Says}
 use Rattle.sheet_text.specs.Text.{bytes, digits}
 use Rattle.sheet_listing.specs.Listing.{line, refusal}
-use Rattle.sheet_listing.specs.inner.Written.{Put, gap}
-use Rattle.sheet_listing.proofs.Putting.{Putting, putting-start, putting-same, putting-some, putting-last}
+use Rattle.sheet_listing.specs.inner.Written.{gap}
 
 -- ---- what is left of a line
 
@@ -34,43 +30,20 @@ unfolding line lineFrom gap
 line-whole [] = refl
 line-whole (f ∷ fs) = line-cons f fs
 
-pub line-next : (first : Bool) {f : List ℕ} {fs gs : List (List ℕ)} → gs ≡ f ∷ fs → lineFrom first gs ≡ gap first ++ f ++ lineFrom false fs
+pub line-next : (first : Bool) (f : List ℕ) (fs : List (List ℕ)) → lineFrom first (f ∷ fs) ≡ (gap first ++ f) ++ lineFrom false fs
 unfolding lineFrom
-line-next first e = rw e
+line-next first f fs = simp append-assoc
 
-pub line-end : (first : Bool) {gs : List (List ℕ)} → gs ≡ [] → lineFrom first gs ≡ 10 ∷ []
+pub line-end : (first : Bool) → lineFrom first [] ≡ 10 ∷ []
 unfolding lineFrom
-line-end first e = rw e
+line-end first = refl
 
--- ---- the line of a row
+-- the same of a row that starts at a, of which the words from i on are left
+pub row-whole : (a : ℕ) (fs : List (List ℕ)) → line fs ≡ lineFrom (eqb a a) fs
+row-whole a fs = rw (eq-eqb a a refl) (line-whole fs)
 
--- the words from number i on are left of the row that starts at a
-pub record Lining (before after : List ℕ) (at : ℕ) (ws : List ℕ) (a e i k : ℕ) : Type 0 where
-  pub from : a ≤ i
-  pub upTo : i ≤ e
-  pub putting : Putting before after at (line (map digits (slice a e ws))) (lineFrom (eqb i a) (map digits (slice i e ws))) k
-
-pub lining-start : (out : List ℕ) (at : ℕ) (ws : List ℕ) (a e : ℕ) → a ≤ e → Lining out out at ws a e a at
-lining-start out at ws a e h = record {
-  from = omega arith;
-  upTo = h;
-  putting = rw (eq-eqb a a refl) (putting-same (line-whole (map digits (slice a e ws))) (putting-start out at (line (map digits (slice a e ws)))));
-}
-
-module _ {before after : List ℕ} {at : ℕ} {ws : List ℕ} {a e i k : ℕ} (l : Lining before after at ws a e i k) {new : List ℕ} {r : ℕ} where
-  pub lining-more : i < e → e ≤ length ws → Put after new k (gap (eqb i a) ++ digits (getD ws i 0)) r → Lining before new at ws a e (i + 1) r
-  lining-more h inside p =
-      let f = l .from in
-      record {
-        from = omega arith;
-        upTo = omega arith;
-        putting =
-            rw (ne-eqb (i + 1) a (λ z. omega arith))
-            (putting-some (putting-same (line-next (eqb i a) (ap (map digits) (slice-next ws i e h inside))) (l .putting)) p);
-      }
-
-  pub lining-end : e ≤ i → Put after new k (10 ∷ []) r → Put before new at (line (map digits (slice a e ws))) r
-  lining-end h p = putting-last (putting-same (line-end (eqb i a) (ap (map digits) (slice-none ws i e h))) (l .putting)) p
+pub row-next : (a i : ℕ) → a ≤ i → (f : List ℕ) (fs : List (List ℕ)) → lineFrom (eqb i a) (f ∷ fs) ≡ (gap (eqb i a) ++ f) ++ lineFrom (eqb (i + 1) a) fs
+row-next a i h f fs = line-next (eqb i a) f fs ∙ ap (λ (b : Bool). (gap (eqb i a) ++ f) ++ lineFrom b fs) (rw (ne-eqb (i + 1) a (λ z. omega arith)))
 
 -- ---- the line of a refusal
 

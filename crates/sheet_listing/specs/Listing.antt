@@ -7,8 +7,6 @@ use mathlib.Core.List.{List, [], _∷_, _++_, map, flatMap}
 use lib.Dec.{leb}
 use lib.ListN.{length, drop, replicate}
 use Rattle.answers.specs.Verdict.{Verdict, number, location}
-use Rattle.drawing.specs.declared.Node.{Node}
-use Rattle.drawing.specs.Drawing.{isPicked}
 use Rattle.sheet_text.specs.Text.{bytes, digits}
 
 -- fields with one space between them, and a line feed: "Every line ends in a line feed"
@@ -18,11 +16,6 @@ line (f ∷ []) = f ++ (10 ∷ [])
 line (f ∷ g ∷ fs) = f ++ (32 ∷ line (g ∷ fs))
 
 -- "the picked names in node order, then one row a line. No rows print the names only"
-unfoldable pub pickedNames : List (List ℕ) → List Node → List (List ℕ)
-pickedNames [] vs = []
-pickedNames (n ∷ ns) [] = []
-pickedNames (n ∷ ns) (v ∷ vs) = let rest = pickedNames ns vs in cond (isPicked v) (n ∷ rest) rest
-
 unfoldable pub listing : List (List ℕ) → List (List ℕ) → List ℕ
 listing names found = line names ++ flatMap (λ r. line (map digits r)) found
 

@@ -1,58 +1,28 @@
-// The listing of a query's rows, or of a refusal, in a lent slice of bytes. A function that writes takes the place where its text starts, and
-// returns the place after it. Bytes past the end of the slice are left out, and from there on the place stays past the end.
+// The listing of a query's rows, or of a refusal, in a lent slice of bytes.
 
 use answers::Answer;
 use answers::number_and_place;
 use drawing::Drawing;
 use sheet_text::Names;
 use sheet_text::Span;
+use sheet_writer::fits;
+use sheet_writer::put_byte;
+use sheet_writer::put_number;
+use sheet_writer::put_text;
+use sheet_writer::row_end;
 ghost use mathlib.Core.Path.{_≡_};
-ghost use Prim.Native.Nat.{_+_, _<_, _≤_, min};
-ghost use mathlib.Core.List.{[], _∷_, _++_, map};
-ghost use lib.ListN.{length, getD, take, replicate};
+ghost use mathlib.Core.List.{_++_, map};
+ghost use lib.ListN.{getD, take};
 ghost use lib.Seq.{slice};
 ghost use Rattle.answers.specs.Answers.{verdictOf};
 ghost use Rattle.drawing.specs.Builder.{view};
 ghost use Rattle.sheet_text.specs.Text.{digits};
 ghost use Rattle.sheet_text.specs.inner.Parts.{span, textAt, Inside, namesOf};
-ghost use Rattle.sheet_listing.specs.Listing.{line, pickedNames, listing, refusal, listedIn, listed};
-ghost use Rattle.sheet_listing.specs.inner.Written.{Put, gap, rowsOf, rowLines, Named, Rowed, finished, NamedOne, Listable};
-
-// One byte.
-fn put_byte(out: &mut [u8], at: usize, b: u8) -> usize
-    ensures { λ r. ⌜ Put (now (out .entry)) (now (out .exit)) at (b ∷ []) r ⌝ }
-{
-    if at < out.len() {
-        out[at] = b;
-        return at + 1;
-    }
-    out.len() + 1
-}
-
-// A part of another slice.
-fn put_text(out: &mut [u8], at: usize, s: &[u8], p: Span) -> usize
-    requires { ⌜ Inside (now s) p ⌝ }
-    ensures { λ r. ⌜ Put (now (out .entry)) (now (out .exit)) at (textAt (now (s .entry)) p) r ⌝ }
-{
-    let mut k = at;
-    let mut i = p.start;
-    while i < p.end {
-        k = put_byte(out, k, s[i]);
-        i += 1;
-    }
-    k
-}
-
-// The decimal digits of a number.
-fn put_number(out: &mut [u8], at: usize, n: u32) -> usize
-    ensures { λ r. ⌜ Put (now (out .entry)) (now (out .exit)) at (digits n) r ⌝ }
-{
-    if n < 10 {
-        return put_byte(out, at, 48 + n as u8);
-    }
-    let k = put_number(out, at, n / 10);
-    put_byte(out, k, 48 + (n % 10) as u8)
-}
+ghost use Rattle.sheet_writer.specs.Parts.{partsOf};
+ghost use Rattle.sheet_writer.specs.Picked.{pickedNames};
+ghost use Rattle.sheet_writer.specs.inner.Written.{Put, Named, Rowed, NamedOne, Listable};
+ghost use Rattle.sheet_listing.specs.Listing.{line, listing, refusal, listedIn, listed};
+ghost use Rattle.sheet_listing.specs.inner.Written.{gap, rowLines, Finished};
 
 // What stands before a field: a space, but for the first.
 fn put_gap(out: &mut [u8], at: usize, first: bool) -> usize
@@ -117,21 +87,10 @@ fn put_row(out: &mut [u8], at: usize, rows: &[u32], a: usize, e: usize) -> usize
     put_byte(out, end, 10)
 }
 
-// Where the row ends that starts at word i.
-fn row_end(i: usize, picks: usize, extent: usize) -> usize
-    requires { ⌜ i ≤ extent ⌝ }
-    ensures { λ r. ⌜ r ≡ min (i + picks) extent ⌝ }
-{
-    if extent - i < picks {
-        return extent;
-    }
-    i + picks
-}
-
 // The lines of the rows.
 fn put_rows(out: &mut [u8], at: usize, rows: &[u32], extent: usize, picks: usize) -> usize
     requires { ⌜ Rowed (now rows) extent picks ⌝ }
-    ensures { λ r. ⌜ Put (now (out .entry)) (now (out .exit)) at (rowLines (rowsOf picks (take extent (now (rows .entry))))) r ⌝ }
+    ensures { λ r. ⌜ Put (now (out .entry)) (now (out .exit)) at (rowLines (partsOf picks (take extent (now (rows .entry))))) r ⌝ }
 {
     let mut k = at;
     let mut i = 0;
@@ -143,25 +102,13 @@ fn put_rows(out: &mut [u8], at: usize, rows: &[u32], extent: usize, picks: usize
     k
 }
 
-// Zeros throughout.
-fn clear(out: &mut [u8])
-    ensures { λ r. ⌜ now (out .exit) ≡ replicate (length (now (out .entry))) 0 ⌝ }
-{
-    let mut i = 0;
-    while i < out.len() {
-        out[i] = 0;
-        i += 1;
-    }
-}
-
 // The length of the listing that ends before `at`; 0, with the slice zeroed, where it does not fit.
 fn finish(out: &mut [u8], at: usize) -> usize
-    ensures { λ r. ⌜ listed r (now (out .exit)) ≡ finished at (now (out .entry)) ⌝ }
+    ensures { λ r. ⌜ Finished (now (out .entry)) (now (out .exit)) at r ⌝ }
 {
-    if at <= out.len() {
+    if fits(out, at) {
         return at;
     }
-    clear(out);
     0
 }
 
@@ -178,7 +125,7 @@ pub fn write_listing(
 ) -> usize
     requires { ⌜ Listable (now sheet) (now rows) names drawing extent picks ⌝ }
     ensures { λ r. ⌜ listed r (now (out .exit))
-        ≡ listedIn (listing (pickedNames (namesOf (now (sheet .entry)) names) (view drawing .nodes)) (rowsOf picks (take extent (now (rows .entry))))) (now (out .entry)) ⌝ }
+        ≡ listedIn (listing (pickedNames (namesOf (now (sheet .entry)) names) (view drawing .nodes)) (partsOf picks (take extent (now (rows .entry))))) (now (out .entry)) ⌝ }
 {
     let k = put_names(out, 0, sheet, names, drawing);
     let end = put_rows(out, k, rows, extent, picks);

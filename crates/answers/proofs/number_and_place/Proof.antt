@@ -65,10 +65,15 @@ returns-15 : tie.Need-returns-15
 unfolding number verdictOf location
 returns-15 c = search needs
 
+returns-16 : tie.Need-returns-16
+unfolding number verdictOf location
+returns-16 c = search needs
+
 pub number-and-place-spec : {M : Type 1} → statement M
 number-and-place-spec =
     tie.close
     (tie.spec
+    (λ c. search needs)
     (λ c. search needs)
     (λ c. search needs)
     (λ c. search needs)
@@ -98,4 +103,5 @@ number-and-place-spec =
     returns-12
     returns-13
     returns-14
-    returns-15)
+    returns-15
+    returns-16)

@@ -1,7 +1,7 @@
 -- `sheet_listing::put_gap` meets its contract: nothing, or a space. Assumes nothing.
 use borrow.Author.Needs.{needs}
 use Rattle.sheet_listing.specs.inner.Written.{gap}
-use Rattle.sheet_listing.proofs.Putting.{put-nothing}
+use Rattle.sheet_writer.proofs.Putting.{put-nothing}
 use Rattle.sheet_listing.proofs.put_gap.Statement.{statement}
 use Rattle.sheet_listing.proofs.put_gap.Tie as tie
 

@@ -1,6 +1,6 @@
 -- `sheet_listing::put_name` meets its contract: what stands before the field, then the name. Assumes nothing.
 use borrow.Author.Needs.{needs}
-use Rattle.sheet_listing.proofs.Putting.{put-then}
+use Rattle.sheet_writer.proofs.Putting.{put-then}
 use Rattle.sheet_listing.proofs.put_name.Statement.{statement}
 use Rattle.sheet_listing.proofs.put_name.Tie as tie
 

@@ -3,13 +3,19 @@ use Prim.Native.Nat.{_-_}
 use native.Mathlib.Omega.{arith}
 use borrow.Author.Needs.{needs}
 use mathlib.Core.Path.{_∙_}
-use Rattle.sheet_listing.proofs.Putting.{put-size}
-use Rattle.sheet_listing.proofs.Lines.{Lining, lining-start, lining-more, lining-end}
+use mathlib.Core.List.{map}
+use lib.Dec.{eqb}
+use lib.Seq.{slice}
+use Rattle.sheet_text.specs.Text.{digits}
+use Rattle.sheet_writer.proofs.Putting.{put-size}
+use Rattle.sheet_writer.proofs.Rows.{Lining, lining-start, lining-more, lining-end}
+use Rattle.sheet_listing.specs.Listing.{line}
+use Rattle.sheet_listing.proofs.Lines.{lineFrom, row-whole, row-next, line-end}
 use Rattle.sheet_listing.proofs.put_row.Statement.{statement}
 use Rattle.sheet_listing.proofs.put_row.Tie as tie
 
 abbrev Inv-loop : tie.InvT-loop
-Inv-loop out₀ at rows a e end₀ i₀ out end i = Lining out₀ out at rows a e i end
+Inv-loop out₀ at rows a e end₀ i₀ out end i = Lining out₀ out at (line (map digits (slice a e rows))) (lineFrom (eqb i a)) rows a e i end
 
 abbrev μ-loop : tie.MeasureT-loop
 μ-loop out₀ at rows a e end₀ i₀ out end i = e - i
@@ -39,18 +45,18 @@ loop-of-returns c = after-loop-of-returns c .before
 -- ---- end of places
 
 loop-holds : tie.Need-loop-holds Inv-loop μ-loop
-loop-holds c = lining-start _ _ _ _ _ (c .before .before .pre .ordered)
+loop-holds c = lining-start _ _ _ _ _ (c .before .before .pre .ordered) (row-whole (c .before .before .args .a) _)
 
 loop-again : tie.Need-loop-again Inv-loop μ-loop
 loop-again c =
     let l = in-loop-of-again c in
-    lining-more (l .before .loop .inv) (l .loop-test .taken) (entry-of-in-loop l .pre .ends) (c .before .before .put-field .ensures)
+    lining-more (l .before .loop .inv) (l .loop-test .taken) (entry-of-in-loop l .pre .ends) (row-next _ _ (l .before .loop .inv .from) _) (c .before .before .put-field .ensures)
 
 same-length : tie.Need-same-length Inv-loop μ-loop
 same-length c = c .before .before .put-byte .kept .0 ∙ put-size (loop-of-returns c .loop .inv .putting .put)
 
 returns : tie.Need-returns Inv-loop μ-loop
-returns c = lining-end (loop-of-returns c .loop .inv) (after-loop-of-returns c .loop-test .left) (c .before .before .put-byte .ensures)
+returns c = lining-end (loop-of-returns c .loop .inv) (after-loop-of-returns c .loop-test .left) (line-end _) (c .before .before .put-byte .ensures)
 
 pub put-row-spec : {M : Type 1} → statement M
 put-row-spec =

@@ -1,13 +1,16 @@
 -- `sheet_listing::put_rows` meets its contract: each turn writes the line of one row. Assumes nothing.
 use borrow.Author.Needs.{needs}
 use Prim.Native.Nat.{_-_}
-use Rattle.sheet_listing.proofs.Putting.{put-size}
-use Rattle.sheet_listing.proofs.Rows.{Rowing, rowing-start, rowing-more, rowing-end}
+use mathlib.Core.List.{map}
+use Rattle.sheet_text.specs.Text.{digits}
+use Rattle.sheet_writer.proofs.Putting.{put-size}
+use Rattle.sheet_writer.proofs.Rows.{Rowing, rowing-start, rowing-more, rowing-end}
+use Rattle.sheet_listing.specs.Listing.{line}
 use Rattle.sheet_listing.proofs.put_rows.Statement.{statement}
 use Rattle.sheet_listing.proofs.put_rows.Tie as tie
 
 abbrev Inv-loop : tie.InvT-loop
-Inv-loop out₀ at rows extent picks k₀ i₀ out k i = Rowing out₀ out at rows extent picks i k
+Inv-loop out₀ at rows extent picks k₀ i₀ out k i = Rowing (λ r. line (map digits r)) out₀ out at rows extent picks i k
 
 abbrev μ-loop : tie.MeasureT-loop
 μ-loop out₀ at rows extent picks k₀ i₀ out k i = extent - i
@@ -25,7 +28,7 @@ in-loop-of-again c = row-end-of-again c .before
 -- ---- end of places
 
 loop-holds : tie.Need-loop-holds Inv-loop μ-loop
-loop-holds c = rowing-start _ _ _ _ _
+loop-holds c = rowing-start _ _ _ _ _ _
 
 loop-again : tie.Need-loop-again Inv-loop μ-loop
 loop-again c =

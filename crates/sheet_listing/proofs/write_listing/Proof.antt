@@ -1,8 +1,7 @@
 -- `sheet_listing::write_listing` meets its contract: the line of names, then the lines of the rows. Assumes nothing.
 use borrow.Author.Needs.{needs}
-use mathlib.Core.Path.{_∙_}
 use Rattle.sheet_listing.specs.Listing.{listing}
-use Rattle.sheet_listing.proofs.Putting.{put-then}
+use Rattle.sheet_writer.proofs.Putting.{put-then}
 use Rattle.sheet_listing.proofs.Ending.{finished-listed}
 use Rattle.sheet_listing.proofs.write_listing.Statement.{statement}
 use Rattle.sheet_listing.proofs.write_listing.Tie as tie
@@ -21,7 +20,7 @@ put-names-of-returns c = put-rows-of-returns c .before .before .before .before
 
 returns : tie.Need-returns
 unfolding listing
-returns c = c .before .before .finish .ensures ∙ finished-listed (put-then (put-names-of-returns c .put-names .ensures) (put-rows-of-returns c .put-rows .ensures))
+returns c = finished-listed (put-then (put-names-of-returns c .put-names .ensures) (put-rows-of-returns c .put-rows .ensures)) (c .before .before .finish .ensures)
 
 pub write-listing-spec : {M : Type 1} → statement M
 write-listing-spec =

@@ -1,8 +1,8 @@
 -- `sheet_listing::write_refusal` meets its contract: a word, two numbers and a line feed. Assumes nothing.
 use borrow.Author.Needs.{needs}
-use mathlib.Core.Path.{refl, _∙_}
+use mathlib.Core.Path.{refl}
 use Rattle.sheet_text.specs.Text.{bytes}
-use Rattle.sheet_listing.proofs.Putting.{put-same, put-then}
+use Rattle.sheet_writer.proofs.Putting.{put-same, put-then}
 use Rattle.sheet_listing.proofs.Lines.{refusal-text}
 use Rattle.sheet_listing.proofs.Ending.{finished-listed}
 use Rattle.sheet_listing.proofs.write_refusal.Statement.{statement}
@@ -32,10 +32,10 @@ number-and-place-of-returns c = put-text-of-returns c .before .before .before .b
 returns : tie.Need-returns
 unfolding bytes
 returns c =
-    c .before .before .finish .ensures ∙
     finished-listed
     (put-same (refusal-text _ refl (number-and-place-of-returns c .number-and-place .ensures))
     (put-then (put-then (put-then (put-text-of-returns c .put-text .ensures) (put-field-of-returns c .put-field .ensures)) (put-field2-of-returns c .put-field2 .ensures)) (put-byte-of-returns c .put-byte .ensures)))
+    (c .before .before .finish .ensures)
 
 pub write-refusal-spec : {M : Type 1} → statement M
 write-refusal-spec =

@@ -1,0 +1,4 @@
+pub mod Cases
+pub mod Pages
+pub mod ReadBack
+pub mod inner

@@ -1,0 +1,4 @@
+pub mod Giving
+pub mod OnPaper
+pub mod Papers
+pub mod Printed

@@ -1,0 +1,5 @@
+pub mod Answers
+pub mod Cases
+pub mod Demand
+pub mod SheetPages
+pub mod inner
