@@ -2,14 +2,14 @@
  *
  * docs/MANUAL.md has the formats of feeds, drawings, instruction lists and sheets, and the number and place of every refusal.
  *
- * A slice is a pointer, then a length in elements. Every call but the last returns the number of the refusal, 0 when it accepts, and
- * writes the place through `place`, 0 when it accepts. Calls take any words and bytes: what a slice holds is checked.
+ * A slice is a pointer, then a length in elements. Every call but matcher_sheet_query returns the number of the refusal, 0 when it
+ * accepts, and writes the place through `place`, 0 when it accepts. Calls take any words and bytes: what a slice holds is checked.
  *
  * What the caller owes:
  * - A slice's pointer points to as many elements as the length says, aligned for their type. With length 0 it may be null.
- *   `place`, `instructions` and `row_words` are never null.
- * - What a call writes to (a slice, `place`, `instructions`, `row_words`) overlaps nothing else that the call is given. Slices that
- *   are only read may overlap each other.
+ *   `place`, `instructions`, `row_words` and `length` are never null.
+ * - What a call writes to (a slice, `place`, `instructions`, `row_words`, `length`) overlaps nothing else that the call is given.
+ *   Slices that are only read may overlap each other.
  * - Nothing else changes the slices during the call: a feed is checked, then read again.
  * - The stack has room for the call. In KiB, measured and rounded up:
  *
@@ -19,6 +19,7 @@
  *       matcher_run            540
  *       matcher_query          560
  *       matcher_sheet_query    330
+ *       matcher_sheet_pages    330
  *
  * Calls share no state, keep none and allocate nothing; of the C library they need memcpy and memset. Threads may call at once, each
  * with its own slices to write to; slices that are only read may be shared.
@@ -29,9 +30,9 @@
 #include <stddef.h>
 #include <stdint.h>
 
-#define MATCHER_VERSION "1.1.0"
+#define MATCHER_VERSION "1.2.0"
 #define MATCHER_VERSION_MAJOR 1
-#define MATCHER_VERSION_MINOR 1
+#define MATCHER_VERSION_MINOR 2
 #define MATCHER_VERSION_PATCH 0
 
 /* Words that take every translation: 864 instructions. */
@@ -42,6 +43,9 @@
 
 /* Bytes that take every listing. */
 #define MATCHER_LISTING_BYTES 24732
+
+/* Bytes that take the pages of every sheet: 4,096 rows on 82 pages. */
+#define MATCHER_PAGES_BYTES 281160
 
 #ifdef __cplusplus
 extern "C" {
@@ -78,6 +82,15 @@ uint32_t matcher_query(const uint32_t *feed, size_t feed_len, const uint32_t *dr
  * A refusal's line is a listing, too. It is told from rows by its first nine bytes: `refused `, with the space, and a digit. The word
  * alone does not tell, for `refused` may be the name of a node. */
 size_t matcher_sheet_query(const uint8_t *sheet, size_t sheet_len, uint8_t *listing, size_t listing_len);
+
+/* The rows of a sheet on pages, to be printed: 3, 5 to 7, 10 to 12, 14, and 15, place 0, for more than five picked nodes. Every line
+ * has 65 characters and a line feed: a column of 13 for each picked node, names and numbers set right, then spaces. A page is a line
+ * of the names, up to 50 rows, and a line `page` with its number from 1, which ends at character 65; without rows there is one page.
+ * `length` gets the pages' length in bytes, 0 on a refusal; the bytes after the pages are untouched. 12 is for rows that do not fit
+ * the call's own 4,096 row words, and for a page buffer that is too short: after either the buffer is all zeros. After other refusals
+ * it is untouched. */
+uint32_t matcher_sheet_pages(const uint8_t *sheet, size_t sheet_len, uint8_t *pages, size_t pages_len, uint32_t *place,
+                             size_t *length);
 
 #ifdef __cplusplus
 }

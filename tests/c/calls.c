@@ -25,6 +25,10 @@ static const uint32_t rows[] = {1, 3, 2, 4};
 static const char sheet[] = "class object\nregion 1\nregion 2\nregion 3\nregion 4\n\nlabel from to\ntouch 1 2\ntouch 2 3\ntouch 3 4\n\n"
                             "node class pick\na region 1\nm region 0\nb region 1\n\nedge source target\ntouch a m\ntouch m b\n";
 static const char listing[] = "a b\n1 3\n2 4\n";
+static const char pages[] = "            a            b                                       \n"
+                            "            1            3                                       \n"
+                            "            2            4                                       \n"
+                            "                                                           page 1\n";
 
 /* ---- a two-way label: region 1 of the first class, region 2 of the second, and the pair (2,1), which is met from 1 to 2 as well. */
 
@@ -40,6 +44,10 @@ static const uint32_t two_way_rows[] = {1, 2};
 static const char two_way_sheet[] = "class object\na 1\nb 2\n\nlabel from to\ntouch* 2 1\n\n"
                                     "node class pick\nx a 1\ny b 1\n\nedge source target\ntouch* x y\n";
 static const char two_way_listing[] = "x y\n1 2\n";
+
+/* ---- one pick more than a page has columns */
+
+static const char six[] = "class object\na 7\n\nlabel from to\n\nnode class pick\nu a 1\nv a 1\nw a 1\nx a 1\ny a 1\nz a 1\n\nedge source target\n";
 
 #define COUNT(words) (sizeof(words) / sizeof(words)[0])
 #define FEED feed, COUNT(feed)
@@ -66,7 +74,7 @@ static void same(struct tally *t, const char *what, size_t found, size_t expecte
 
 /* ---- what is lent: guards stand before and behind it */
 
-enum { GUARD = 8, MOST = 80, ALL = GUARD + MOST + GUARD };
+enum { GUARD = 8, MOST = 80, ALL = GUARD + MOST + GUARD, MOST_BYTES = 280, ALL_BYTES = GUARD + MOST_BYTES + GUARD };
 
 #define FILL 0xa5a5a5a5u
 
@@ -76,7 +84,7 @@ struct words {
 };
 
 struct bytes {
-    uint8_t all[ALL];
+    uint8_t all[ALL_BYTES];
     size_t len;
 };
 
@@ -125,7 +133,7 @@ static void holds(struct tally *t, const char *what, const struct words *lent, c
 static void holds_bytes(struct tally *t, const char *what, const struct bytes *lent, const char *text, size_t n, uint8_t rest)
 {
     size_t i, wrong = 0;
-    for (i = 0; i < ALL; i++) {
+    for (i = 0; i < ALL_BYTES; i++) {
         uint8_t expected = FILL & 0xff;
         if (i >= GUARD && i < GUARD + n)
             expected = (uint8_t)text[i - GUARD];
@@ -234,6 +242,28 @@ static void sheets(struct tally *t)
     holds_bytes(t, "sheet_query, refused, listing", &lent, refusal, sizeof refusal - 1, 0);
 }
 
+/* Pages in a buffer of so many bytes: number and place, how many bytes are given, and what stands behind them. */
+static void one_paging(struct tally *t, const char *what, const char *from, size_t n, size_t room, uint32_t number, uint32_t place, size_t given,
+                       uint8_t rest)
+{
+    struct answer a;
+    struct bytes lent;
+    uint8_t *to = lend_bytes(&lent, room);
+    says(t, what, matcher_sheet_pages((const uint8_t *)from, n, to, lent.len, &ready(&a)->place, &a.count), &a, number, place);
+    same(t, what, a.count, given);
+    holds_bytes(t, what, &lent, pages, given, rest);
+}
+
+static void paging(struct tally *t)
+{
+    const size_t exact = sizeof pages - 1;
+    one_paging(t, "sheet_pages", sheet, sizeof sheet - 1, exact + 5, 0, 0, exact, FILL & 0xff);
+    one_paging(t, "sheet_pages, exact", sheet, sizeof sheet - 1, exact, 0, 0, exact, 0);
+    one_paging(t, "sheet_pages, too short", sheet, sizeof sheet - 1, exact - 1, 12, 0, 0, 0);
+    one_paging(t, "sheet_pages, six picks", six, sizeof six - 1, exact, 15, 0, 0, FILL & 0xff);
+    one_paging(t, "sheet_pages, a breach", "x", 1, exact, 14, 1, 0, FILL & 0xff);
+}
+
 /* A query over a two-way label with so many work words: number and place, and how many words of registers and of rows there are. */
 static void two_way_query(struct tally *t, const char *what, size_t work_words, uint32_t number, uint32_t place, size_t done, size_t given)
 {
@@ -273,6 +303,7 @@ static void all_calls(struct tally *t)
     runs(t);
     queries(t);
     sheets(t);
+    paging(t);
     two_way(t);
 }
 
@@ -332,11 +363,18 @@ static void null_bytes(struct tally *t)
 {
     static const char refusal[] = "refused 14 1\n";
     struct bytes lent;
-    uint8_t *to = lend_bytes(&lent, MOST);
+    struct answer a;
+    uint8_t *to = lend_bytes(&lent, MOST_BYTES);
     same(t, "sheet_query, no sheet", matcher_sheet_query(NULL, 0, to, lent.len), sizeof refusal - 1);
     holds_bytes(t, "sheet_query, no sheet, listing", &lent, refusal, sizeof refusal - 1, FILL & 0xff);
     same(t, "sheet_query, no listing", matcher_sheet_query(SHEET, NULL, 0), 0);
     same(t, "sheet_query, neither", matcher_sheet_query(NULL, 0, NULL, 0), 0);
+    to = lend_bytes(&lent, MOST_BYTES);
+    says(t, "sheet_pages, no sheet", matcher_sheet_pages(NULL, 0, to, lent.len, &ready(&a)->place, &a.count), &a, 14, 1);
+    holds_bytes(t, "sheet_pages, no sheet, pages", &lent, pages, 0, FILL & 0xff);
+    says(t, "sheet_pages, no pages", matcher_sheet_pages(SHEET, NULL, 0, &ready(&a)->place, &a.count), &a, 12, 0);
+    same(t, "sheet_pages, no pages, length", a.count, 0);
+    says(t, "sheet_pages, neither", matcher_sheet_pages(NULL, 0, NULL, 0, &ready(&a)->place, &a.count), &a, 14, 1);
 }
 
 /* ---- slices in blocks of their own that were never written: valgrind sees a use of their words, and an access beside them */
@@ -345,11 +383,11 @@ static void unwritten(struct tally *t)
 {
     const size_t words[] = {COUNT(list), COUNT(registers), COUNT(rows)};
     uint32_t place, *lent[3];
-    size_t i, count, exact = sizeof listing - 1;
-    uint8_t *to = (uint8_t *)malloc(exact);
+    size_t i, count, exact = sizeof listing - 1, whole = sizeof pages - 1;
+    uint8_t *to = (uint8_t *)malloc(exact), *paper = (uint8_t *)malloc(whole);
     for (i = 0; i < 3; i++)
         lent[i] = (uint32_t *)malloc(words[i] * sizeof(uint32_t));
-    if (to == NULL || lent[0] == NULL || lent[1] == NULL || lent[2] == NULL) {
+    if (to == NULL || paper == NULL || lent[0] == NULL || lent[1] == NULL || lent[2] == NULL) {
         same(t, "memory", 0, 1);
         return;
     }
@@ -359,9 +397,12 @@ static void unwritten(struct tally *t)
     same(t, "unwritten, registers", memcmp(lent[1], registers, sizeof registers), 0);
     same(t, "unwritten, sheet query", matcher_sheet_query(SHEET, to, exact), exact);
     same(t, "unwritten, listing", memcmp(to, listing, exact), 0);
+    same(t, "unwritten, sheet pages", matcher_sheet_pages(SHEET, paper, whole, &place, &count), 0);
+    same(t, "unwritten, pages", count == whole && memcmp(paper, pages, whole) == 0, 1);
     for (i = 0; i < 3; i++)
         free(lent[i]);
     free(to);
+    free(paper);
 }
 
 /* ---- threads: the samples that are read are the same for all, the slices that are written to are each one's own */

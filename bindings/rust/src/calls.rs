@@ -42,4 +42,13 @@ extern "C" {
     ) -> u32;
 
     pub fn matcher_sheet_query(sheet: *const u8, sheet_len: usize, listing: *mut u8, listing_len: usize) -> usize;
+
+    pub fn matcher_sheet_pages(
+        sheet: *const u8,
+        sheet_len: usize,
+        pages: *mut u8,
+        pages_len: usize,
+        place: *mut u32,
+        length: *mut usize,
+    ) -> u32;
 }

@@ -2,7 +2,8 @@
 //!
 //! A *feed* is what the cameras saw: classes of regions, and labelled pairs of regions. A *drawing* is what is asked: nodes, edges, some nodes
 //! picked. [`query`] gives one row for each list of objects that the drawing finds at its picked nodes, ascending, each once. Feeds, drawings and
-//! instruction lists are slices of words, whose formats `docs/MANUAL.md` of the repository describes; [`sheet_query`] takes both as text instead.
+//! instruction lists are slices of words, whose formats `docs/MANUAL.md` of the repository describes; [`sheet_query`] takes both as text instead, and
+//! [`sheet_pages`] sets the rows of such a text on pages to be printed.
 //!
 //! Every call takes any words: it answers, or gives a [`Refusal`]. No call keeps anything or shares anything with another, so threads may call at
 //! once. What a call takes of the stack stands in `include/matcher.h`; it is less than 1 MiB.
@@ -21,14 +22,17 @@ pub const TWO_WAY: u32 = 32_768;
 /// A listing of so many bytes has room for the answer to every sheet.
 pub const LISTING_BYTES: usize = 24_732;
 
+/// A page buffer of so many bytes has room for the pages of every sheet: 4,096 rows, 82 pages.
+pub const PAGES_BYTES: usize = 281_160;
+
 // ---- refusals
 
 /// Why a call gives no answer: the number of the refusal, and the place that it is about.
 #[derive(Clone, Copy, PartialEq, Eq, Hash, Debug)]
 pub struct Refusal {
-    /// From 1 to 13.
+    /// From 1 to 15.
     pub number: u32,
-    /// A word, an instruction or a count, as the number wants it, counted from 0; 0 where there is none.
+    /// A word, an instruction or a count, as the number wants it, counted from 0; a line of a sheet, counted from 1; 0 where there is none.
     pub place: u32,
 }
 
@@ -47,8 +51,10 @@ impl Refusal {
             9 => "unknown kind, operand not earlier, class or label absent, or unused word not 0",
             10 => "the registers so far hold more pairs than the work slice takes",
             11 => "a register over 65,536 pairs",
-            12 => "the row slice is too short for the rows",
+            12 => "the row slice is too short for the rows, or the page buffer for the pages",
             13 => "the instruction slice is shorter than the translation",
+            14 => "a breach of the sheet's format, or a sheet of more than 16,384 bytes",
+            15 => "more than five picked nodes, and a page has five columns",
             _ => "no refusal of this library",
         }
     }
@@ -63,6 +69,7 @@ impl fmt::Display for Refusal {
             6 => write!(f, " (word {place} of the drawing)"),
             9..=11 => write!(f, " (instruction {place})"),
             13 => write!(f, " ({place} instructions are needed)"),
+            14 if place > 0 => write!(f, " (line {place} of the sheet)"),
             _ => Ok(()),
         }
     }
@@ -151,4 +158,15 @@ pub fn sheet_query<'l>(sheet: &[u8], listing: &'l mut [u8]) -> Option<&'l [u8]> 
         0 => None,
         _ => Some(&listing[..length]),
     }
+}
+
+/// The rows of a sheet on pages of five columns, to be printed: refusals 3, 5 to 7, 10 to 12, 14 and 15. The pages are the first bytes of the page
+/// buffer; those behind them are untouched. After 12, by the rows or by the buffer, it is all zeros, after other refusals untouched. [`PAGES_BYTES`]
+/// always suffice.
+pub fn sheet_pages<'p>(sheet: &[u8], pages: &'p mut [u8]) -> Result<&'p [u8], Refusal> {
+    let (mut place, mut length) = (0, 0);
+    let (s, p) = (sheet.as_ptr(), pages.as_mut_ptr());
+    // SAFETY: slices with their lengths, of which the one that is written is lent as `&mut`; a place and a length of our own
+    let number = unsafe { calls::matcher_sheet_pages(s, sheet.len(), p, pages.len(), &mut place, &mut length) };
+    answer(number, place).map(|()| &pages[..length])
 }

@@ -8,9 +8,13 @@ mod examples;
 mod listings;
 mod manual;
 mod manual_limits;
+mod manual_pages;
 mod manual_sheets;
 #[allow(dead_code)]
 mod model;
+mod page_cases;
+mod page_model;
+mod pages;
 mod queries;
 mod random;
 mod raw;
@@ -106,6 +110,9 @@ fn few(tally: &mut Tally) {
     sheets::ceilings(tally);
     sheets::random(tally, 300);
     listings::longest(tally);
+    pages::named(tally);
+    pages::longest(tally);
+    pages::random(tally, 300);
     raw::all(tally, 100);
     refusals::words(tally);
 }
@@ -138,6 +145,10 @@ fn main() {
     sheets::random(&mut tally, 100_000);
     listings::lengths(&mut tally);
     listings::longest(&mut tally);
+    pages::named(&mut tally);
+    pages::every_length(&mut tally);
+    pages::longest(&mut tally);
+    pages::random(&mut tally, 100_000);
     raw::all(&mut tally, 20_000);
     refusals::words(&mut tally);
     stack::all(&mut tally);

@@ -2,6 +2,7 @@
 //! Code blocks are found by the name behind ```text, tables by the heading above them.
 
 use crate::manual_limits;
+use crate::manual_pages;
 use crate::manual_sheets;
 use crate::model::{self, Verdict, ACCEPTED};
 use crate::sheet_model;
@@ -46,6 +47,14 @@ fn counted(answer: Result<usize, Refusal>) -> (Verdict, usize) {
 pub fn listing(sheet: &[u8]) -> String {
     let mut listing = [b'~'; matcher::LISTING_BYTES];
     String::from_utf8(matcher::sheet_query(sheet, &mut listing).unwrap_or_default().to_vec()).unwrap()
+}
+
+/// The pages of a sheet with a page buffer of so many bytes, or the line of its refusal.
+pub fn pages(sheet: &[u8], bytes: usize) -> String {
+    match matcher::sheet_pages(sheet, &mut vec![b'~'; bytes]) {
+        Ok(text) => String::from_utf8(text.to_vec()).unwrap(),
+        Err(Refusal { number, place }) => format!("refused {number} {place}\n"),
+    }
 }
 
 // ---- the manual's text
@@ -120,6 +129,8 @@ pub struct Case {
     pub list: Vec<u32>,
     pub lengths: [usize; 3],
     pub sheet: Option<Vec<u8>>,
+    /// the length of a page buffer, where the sheet's pages are asked for
+    pub buffer: Option<usize>,
 }
 
 /// The sample, with ample slices.
@@ -130,6 +141,7 @@ fn sample(tally: &mut Tally) -> Case {
         list: words(tally, "sample-list", 3),
         lengths: [60, 99, 9],
         sheet: Some(text("sample-sheet").into_bytes()),
+        buffer: None,
     }
 }
 
@@ -139,7 +151,7 @@ fn crossed(sizes: &[u32]) -> Case {
     feed.extend(sizes.iter().flat_map(|&n| (0..n).flat_map(|i| [i, i])));
     let drawing = vec![2, 0, 0, 1, 1, 1];
     let list = model::translate(&model::read_drawing(&drawing)).list;
-    Case { feed, drawing, list, lengths: [60, 600_000, 140_000], sheet: None }
+    Case { feed, drawing, list, lengths: [60, 600_000, 140_000], ..Case::default() }
 }
 
 /// What an example of the table of refusals hands over, and to which call.
@@ -152,10 +164,16 @@ fn example(sample: &Case, text: &str) -> (&'static str, Case) {
         "list" => case.list = numbers(rest),
         "query" => case.lengths = [0, 1, 2].map(|k| numbers(rest)[k] as usize),
         "cross" => case = crossed(&numbers(rest)),
-        "sheet" => case.sheet = Some(rest.replace("\\n", "\n").into_bytes()),
+        "sheet" | "pages" => case.sheet = Some(rest.replace("\\n", "\n").into_bytes()),
         "bytes" => case.sheet = Some(vec![b'\n'; numbers(rest)[0] as usize]),
+        "buffer" => case.sheet = sample.sheet.clone(),
         _ => panic!("docs/MANUAL.md, refusals: {text}"),
     }
+    case.buffer = match first {
+        "pages" => Some(matcher::PAGES_BYTES),
+        "buffer" => Some(numbers(rest)[0] as usize),
+        _ => None,
+    };
     let call = match first {
         "feed" => "matcher_check_feed",
         "drawing" => "matcher_check_drawing",
@@ -269,13 +287,14 @@ fn with_comma(n: u32) -> String {
 /// Each row of the table of refusals: its example gives its answer, whose number it stands under.
 fn refusals(tally: &mut Tally) {
     let sample = sample(tally);
-    let mut met = [false; 15];
+    let mut met = [false; 16];
     for row in table("## 8. Refusals") {
         let (given, answer) = (row[3].trim_matches('`'), row[4].trim_matches('`'));
         let (call, case) = example(&sample, given);
-        let found = match &case.sheet {
-            Some(sheet) => listing(sheet),
-            None => format!("refused {} {}\n", ask(call, &case).verdict.0, ask(call, &case).verdict.1),
+        let found = match (&case.sheet, case.buffer) {
+            (Some(sheet), Some(bytes)) => pages(sheet, bytes),
+            (Some(sheet), None) => listing(sheet),
+            (None, _) => format!("refused {} {}\n", ask(call, &case).verdict.0, ask(call, &case).verdict.1),
         };
         tally.same(&format!("the manual's '{given}'"), &found, &format!("refused {answer}\n"), &[]);
         let (number, place) = answer.split_once(' ').unwrap();
@@ -285,11 +304,11 @@ fn refusals(tally: &mut Tally) {
         }
         met[row[0].parse::<usize>().unwrap()] = true;
     }
-    tally.same("the manual has every refusal", &met[1..], &[true; 14][..], &[]);
+    tally.same("the manual has every refusal", &met[1..], &[true; 15][..], &[]);
 }
 
 /// Numbers as '1 to 4, 8, 9'.
-fn is_among(cell: &str, number: u32) -> bool {
+pub fn is_among(cell: &str, number: u32) -> bool {
     cell.split(", ").any(|part| {
         let (low, high) = part.split_once(" to ").unwrap_or((part, part));
         low.parse().map_or(false, |low: u32| low <= number) && high.parse().map_or(false, |high: u32| number <= high)
@@ -313,7 +332,7 @@ fn leaves(tally: &mut Tally) {
     let refused = table("## 8. Refusals").into_iter().map(|row| example(&sample, row[3].trim_matches('`')).1);
     let cases: Vec<Case> = std::iter::once(Case { sheet: None, ..sample.clone() }).chain(refused).filter(|case| case.sheet.is_none()).collect();
     let table = table("### What a call leaves");
-    let rows = table.iter().filter(|row| row[0] != "`matcher_sheet_query`");
+    let rows = table.iter().filter(|row| !row[0].starts_with("`matcher_sheet_"));
     let calls: Vec<(&str, &Vec<&str>)> = rows.map(|row| (row[0].trim_matches('`'), row)).collect();
     for (call, row) in &calls {
         let answers: Vec<(&Case, Left)> = cases.iter().map(|case| (case, ask(call, case))).collect();
@@ -355,6 +374,7 @@ pub fn examples(tally: &mut Tally) {
     reductions(tally);
     whole_sample(tally);
     manual_sheets::all(tally);
+    manual_pages::all(tally);
     refusals(tally);
     leaves(tally);
 }

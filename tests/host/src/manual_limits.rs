@@ -1,6 +1,6 @@
 //! The manual's table of limits: each is met, and passed by one (or by as little as there is) with the refusal that is named.
 
-use crate::manual::{self, ask, file, listing, says, Case};
+use crate::manual::{self, ask, file, listing, pages, says, Case};
 use crate::model::MARK;
 use crate::Tally;
 
@@ -49,7 +49,11 @@ fn register(n: u32) -> u32 {
 
 /// The number of a listing, 0 where it has rows.
 fn listed(sheet: String) -> u32 {
-    let text = listing(sheet.as_bytes());
+    number_of(&listing(sheet.as_bytes()))
+}
+
+/// The number of a refusal's line, 0 where it is none.
+fn number_of(text: &str) -> u32 {
     text.strip_prefix("refused ").map_or(0, |rest| rest.split(' ').next().unwrap().parse().unwrap())
 }
 
@@ -89,6 +93,11 @@ fn row_words(n: u32) -> u32 {
     a.map_or(99, |a| listed(crossed(&[1, a, rows / (a * a)], &[0, 1, 1, 2])))
 }
 
+/// The pages of a sheet with n picks.
+fn paged(n: u32) -> u32 {
+    number_of(&pages(crossed(&[1], &vec![0; n as usize]).as_bytes(), matcher::PAGES_BYTES))
+}
+
 /// A sheet whose label has a name of n letters and a star.
 fn starred(n: usize) -> u32 {
     let label = "l".repeat(n);
@@ -125,12 +134,13 @@ fn probe(limit: &str, n: u32) -> u32 {
         "digits of a number" => listed(sheet(&format!("a 1{}\n", "0".repeat(n as usize - 1)), "x a 1\n")),
         "pairs of a sheet's registers together" => pairs(n),
         "row words of a sheet" => row_words(n),
+        "columns of a page, one for each picked node" => paged(n),
         _ => 99,
     }
 }
 
 /// Where else the manual names a limit of the table.
-const SENTENCES: [(&str, &[&str]); 13] = [
+const SENTENCES: [(&str, &[&str]); 14] = [
     ("classes of a feed", &["C, the number of classes, 0 to {}", "a line past {} classes,", "| C over {} |"]),
     ("labels of a feed", &["L, the number of labels, 0 to {}", "classes, {} labels,", "| L over {} |"]),
     ("pairs of a table, as stored", &["how many pairs each table has, 0 to {}:", "a count over {} |", "a two-way label over {}, without its mark"]),
@@ -143,7 +153,11 @@ const SENTENCES: [(&str, &[&str]); 13] = [
     ("letters of a name, without a star", &["name = 1 to {} letters", "It is not one of the {} letters."]),
     ("digits of a number", &["number = 1 to {} digits"]),
     ("pairs of a sheet's registers together", &["16,384 work words ({} pairs)"]),
-    ("row words of a sheet", &["and {} row words"]),
+    ("row words of a sheet", &["and {} row words", "do not fit the {} row words"]),
+    (
+        "columns of a page, one for each picked node",
+        &["where more than {} nodes are picked, the answer is 15", "more than {} picks, where pages", "on pages: more than {} picked nodes"],
+    ),
 ];
 
 pub fn table(tally: &mut Tally) {
@@ -163,6 +177,8 @@ pub fn table(tally: &mut Tally) {
         ("No translation has more than", "864", "instructions"),
         ("No listing has more than", "24,732", "bytes"),
         ("No listing is longer than", "24,732", "bytes"),
+        ("No pages have more than", "281,160", "bytes"),
+        ("`MATCHER_PAGES_BYTES`,", "281,160", "bytes, always suffice"),
     ];
     for (before, number, after) in numbers {
         says(tally, &format!("{before} {number} {after}"));

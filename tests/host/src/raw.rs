@@ -6,7 +6,7 @@ use crate::model::{self, Verdict};
 use crate::random::Random;
 use crate::Tally;
 
-// the crate's own declarations; the sheet query has neither place nor count
+// the crate's own declarations; the sheet query has neither place nor count, and the pages are asked for by `pages.rs`
 #[allow(dead_code)]
 #[path = "../../../bindings/rust/src/calls.rs"]
 mod calls;
@@ -57,6 +57,15 @@ fn query(feed: &[u32], drawing: &[u32], [list, work, rows]: [&mut [u32]; 3]) -> 
         calls::matcher_query(f, feed.len(), d, drawing.len(), l, list.len(), w, work.len(), r, rows.len(), &mut place, &mut count)
     };
     ((number, place), Some(count))
+}
+
+/// Number and place, and the length of the pages.
+pub fn sheet_pages(sheet: &[u8], pages: &mut [u8]) -> (Verdict, usize) {
+    let (mut place, mut length) = (PLACE, COUNT);
+    // SAFETY: as above
+    let number =
+        unsafe { calls::matcher_sheet_pages(sheet.as_ptr(), sheet.len(), pages.as_mut_ptr(), pages.len(), &mut place, &mut length) };
+    ((number, place), length)
 }
 
 /// The numbers that were met.

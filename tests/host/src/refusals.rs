@@ -5,7 +5,7 @@ use matcher::Refusal;
 use std::collections::BTreeSet;
 
 /// The ends of the words for place 7, by number from 1.
-const PLACES: [&str; 13] = [
+const PLACES: [&str; 15] = [
     "",
     " (word 7 of the feed)",
     " (word 7 of the feed)",
@@ -19,6 +19,8 @@ const PLACES: [&str; 13] = [
     " (instruction 7)",
     "",
     " (7 instructions are needed)",
+    " (line 7 of the sheet)",
+    "",
 ];
 
 pub fn words(tally: &mut Tally) {
@@ -30,7 +32,10 @@ pub fn words(tally: &mut Tally) {
         meanings.insert(meaning.map(String::from));
     }
     tally.same("refusals with words of their own", &meanings.len(), &PLACES.len(), &[]);
-    for number in [0, 14] {
+    // a sheet that is too long has no line
+    let text = Refusal { number: 14, place: 0 }.to_string();
+    tally.same("words of a sheet too long", &text.contains(" (line "), &false, &[]);
+    for number in [0, 16] {
         let text = Refusal { number, place: 7 }.to_string();
         tally.same("no refusal", &text, &format!("refused {number} 7: no refusal of this library"), &[number]);
     }

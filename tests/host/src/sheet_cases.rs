@@ -182,7 +182,7 @@ fn class(r: &mut Random, count: usize) -> BTreeSet<u32> {
 }
 
 /// Two unconnected nodes with about this many pairs of objects.
-fn product(r: &mut Random, pairs: usize, from: usize) -> Plan {
+pub fn product(r: &mut Random, pairs: usize, from: usize) -> Plan {
     let a = from + r.below(60);
     let b = (pairs / a + r.below(4)).saturating_sub(1);
     let classes = vec![class(r, a), class(r, b)];
@@ -191,7 +191,7 @@ fn product(r: &mut Random, pairs: usize, from: usize) -> Plan {
 }
 
 /// A chain over one object in the middle, with about this many pairs of ends.
-fn hub(r: &mut Random, pairs: usize, from: usize) -> Plan {
+pub fn hub(r: &mut Random, pairs: usize, from: usize) -> Plan {
     let a = from + r.below(60);
     let b = pairs / a + r.below(3);
     let (left, right) = (class(r, a), class(r, b));
@@ -202,7 +202,7 @@ fn hub(r: &mut Random, pairs: usize, from: usize) -> Plan {
 }
 
 /// Unconnected nodes whose rows take about 4,096 words.
-fn rows(r: &mut Random) -> Plan {
+pub fn rows(r: &mut Random) -> Plan {
     let nodes = 4 + r.below(9);
     let (a, b) = (1 + r.below(4), 1 + r.below(4));
     let last = (4_096 / (nodes * a * b) + r.below(3)).saturating_sub(r.below(2));

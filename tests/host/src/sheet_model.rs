@@ -194,6 +194,11 @@ impl Sheet {
         words.extend(self.edges.iter().flatten());
         words
     }
+
+    /// The names of the picked nodes, in node order.
+    pub fn picked(&self) -> Vec<&[u8]> {
+        self.nodes.iter().filter(|node| node.2 == 1).map(|node| &node.0[..]).collect()
+    }
 }
 
 // ---- the listing
@@ -216,7 +221,7 @@ fn refusal(verdict: Verdict, breach: Option<Breach>) -> Answer {
 pub const LENT: [usize; 3] = [3 * 1_024, 16_384, 4_096];
 
 /// The verdict and the words of the rows with slices of these lengths. The rows come from the embeddings, where these are not too many.
-fn ask(feed: &[u32], drawing: &[u32]) -> (Verdict, Vec<u32>) {
+pub fn ask(feed: &[u32], drawing: &[u32]) -> (Verdict, Vec<u32>) {
     let plan = match model::plan(feed, drawing, LENT[1]) {
         Ok(plan) if plan.verdict == ACCEPTED => plan,
         Ok(plan) => return (plan.verdict, Vec::new()),
@@ -236,7 +241,7 @@ pub fn answer(bytes: &[u8]) -> Answer {
     if verdict != ACCEPTED {
         return refusal(verdict, None);
     }
-    let picked: Vec<&[u8]> = sheet.nodes.iter().filter(|node| node.2 == 1).map(|node| &node.0[..]).collect();
+    let picked = sheet.picked();
     let mut text = picked.join(&b' ');
     text.push(b'\n');
     let rows = words.chunks(picked.len());

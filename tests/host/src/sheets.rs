@@ -171,7 +171,7 @@ fn repeated(section: usize, fields: &[&str]) -> Vec<u8> {
 }
 
 /// Classes of so many objects, and picked nodes of these classes; no edge.
-fn crossed(classes: &[usize], nodes: &[usize]) -> Vec<u8> {
+pub fn crossed(classes: &[usize], nodes: &[usize]) -> Vec<u8> {
     let plan = Plan {
         classes: classes.iter().map(|&count| (0..count as u32).collect()).collect(),
         nodes: nodes.iter().map(|&class| (class, 1)).collect(),
@@ -193,9 +193,9 @@ fn looped(objects: u32, pairs: u32) -> Vec<u8> {
 }
 
 pub struct Ceiling {
-    what: &'static str,
+    pub what: &'static str,
     pub sheet: Vec<u8>,
-    verdict: Verdict,
+    pub verdict: Verdict,
     rows: usize,
 }
 

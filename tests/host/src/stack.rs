@@ -3,6 +3,7 @@
 
 use crate::cases;
 use crate::model::Table;
+use crate::pages;
 use crate::sheets;
 use crate::{said, Tally};
 use std::alloc::{alloc, dealloc, Layout};
@@ -131,6 +132,11 @@ fn sheet_query(sheet: &Vec<u8>) -> usize {
     matcher::sheet_query(sheet, &mut vec![0; 30_000]).map_or(0, <[u8]>::len)
 }
 
+/// The length of pages.
+fn sheet_pages(sheet: &Vec<u8>) -> usize {
+    matcher::sheet_pages(sheet, &mut vec![0; matcher::PAGES_BYTES]).map_or(0, <[u8]>::len)
+}
+
 // ---- the header's table
 
 const HEADER: &str = include_str!("../../../include/matcher.h");
@@ -175,6 +181,7 @@ fn check<T: Sync>(tally: &mut Tally, name: &'static str, cases: &[T], call: fn(&
 
 pub fn all(tally: &mut Tally) {
     let sheets: Vec<Vec<u8>> = sheets::at_ceilings().into_iter().map(|case| case.sheet).collect();
+    let paged: Vec<Vec<u8>> = pages::in_order().into_iter().map(|case| case.1).chain(sheets.clone()).collect();
     let (runs, queries) = (large_runs(), large_queries());
     let measured = vec![
         check(tally, "matcher_check_feed", &queries, check_feed),
@@ -183,6 +190,7 @@ pub fn all(tally: &mut Tally) {
         check(tally, "matcher_run", &runs, run),
         check(tally, "matcher_query", &queries, query),
         check(tally, "matcher_sheet_query", &sheets, sheet_query),
+        check(tally, "matcher_sheet_pages", &paged, sheet_pages),
     ];
     tally.same("calls measured, and those of the header", &measured, &declared(), &[]);
     let stated: Vec<&str> = table().iter().map(|entry| entry.0).collect();
