@@ -1,7 +1,7 @@
 -- Limits: every ceiling of document 01, the mark of a two-way label and the measures of a page, once for the definitions.
 --
 -- In order: of a feed; of a drawing; of an instruction list and its registers; of a sheet; of a page; all of them. Assumes nothing.
-use Prim.Native.Nat.{ℕ, _+_, _*_}
+use Prim.Native.Nat.{ℕ}
 use Rattle.limits.specs.declared.Limits.{Limits}
 
 -- "C (0 to 32)", "L (0 to 64)", "C + L pair counts (each at most 4,096)", "An object is 0 to 65,535"

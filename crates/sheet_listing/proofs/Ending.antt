@@ -1,9 +1,8 @@
 -- Ending: what a call leaves, once all of the text is written: text that fits, and text that does not. Assumes nothing.
 use Prim.Native.Nat.{ℕ}
 use mathlib.Core.Bool.{Bool, true, false, cond}
-use mathlib.Core.Path.{_≡_, refl, sym, _∙_}
+use mathlib.Core.Path.{_≡_, refl}
 use mathlib.Core.List.{List}
-use lib.ListN.{length}
 use Rattle.sheet_writer.specs.inner.Written.{Put}
 use Rattle.sheet_writer.proofs.Clearing.{Ended, put-ended}
 use Rattle.sheet_listing.specs.Listing.{listed, listedIn}
