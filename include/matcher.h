@@ -30,9 +30,9 @@
 #include <stddef.h>
 #include <stdint.h>
 
-#define MATCHER_VERSION "1.2.0"
-#define MATCHER_VERSION_MAJOR 1
-#define MATCHER_VERSION_MINOR 2
+#define MATCHER_VERSION "2.0.0"
+#define MATCHER_VERSION_MAJOR 2
+#define MATCHER_VERSION_MINOR 0
 #define MATCHER_VERSION_PATCH 0
 
 /* Words that take every translation: 864 instructions. */
@@ -63,9 +63,10 @@ uint32_t matcher_check_drawing(const uint32_t *feed, size_t feed_len, const uint
 uint32_t matcher_translate(const uint32_t *feed, size_t feed_len, const uint32_t *drawing, size_t drawing_len, uint32_t *list,
                            size_t list_len, uint32_t *place, size_t *instructions);
 
-/* Checks a feed and an instruction list, then runs the list: 1 to 4 and 8 to 11. The work slice takes two words a pair. Once the run
- * begins, and whether or not it is stopped, the slice holds the finished registers in order, then zeros; until then no word is
- * written. Zeroing takes time, too: lend near the need. */
+/* Checks a feed and an instruction list, then runs the list: 1 to 4, 8 to 11, 16 and 17. The place of 9, 16 and 17 is a word of the
+ * list: the kind of instruction i is word 3i, its a and b are the two behind it. The place of 10 and 11 is the instruction. The work
+ * slice takes two words a pair. Once the run begins, and whether or not it is stopped, the slice holds the finished registers in
+ * order, then zeros; until then no word is written. Zeroing takes time, too: lend near the need. */
 uint32_t matcher_run(const uint32_t *feed, size_t feed_len, const uint32_t *list, size_t list_len, uint32_t *work, size_t work_len,
                      uint32_t *place);
 

@@ -56,7 +56,7 @@ pub fn check_feed(feed: &[u32]) -> (u32, u32) {
     (0, 0)
 }
 
-/// Refusals 8 and 9.
+/// Refusals 8, 9, 16 and 17.
 pub fn check_list(feed: &[u32], list: &[u32]) -> (u32, u32) {
     if list.is_empty() || list.len() > 3 * 1024 || list.len() % 3 != 0 {
         return (8, 0);
@@ -72,8 +72,27 @@ pub fn check_list(feed: &[u32], list: &[u32]) -> (u32, u32) {
             _ => false,
         };
         if !valid {
-            return (9, i);
+            return refusal(feed, i, w);
         }
     }
     (0, 0)
+}
+
+/// What is wrong in instruction i, which is not valid, and at which word of the list.
+#[cold]
+fn refusal(feed: &[u32], i: u32, w: &[u32]) -> (u32, u32) {
+    let ceiling = match w[0] {
+        0 => feed[0],
+        1 => feed[1],
+        2..=15 => i,
+        _ => return (9, 3 * i),
+    };
+    if w[1] >= ceiling {
+        return (16, 3 * i + 1);
+    }
+    // so it is b: an operand of these kinds, unused in the others
+    match w[0] {
+        3 | 4 | 5 | 6 | 10 => (16, 3 * i + 2),
+        _ => (17, 3 * i + 2),
+    }
 }

@@ -206,6 +206,29 @@ static void runs(struct tally *t)
     holds(t, "run, stopped, work", &lent, registers, COUNT(registers) - 4, 0);
 }
 
+/* A run of the sample's list in which the word at this place has another value: this number at that place, and the work slice is as it was. */
+static void one_refused_run(struct tally *t, const char *what, uint32_t place, uint32_t value, uint32_t number)
+{
+    struct answer a;
+    struct words lent;
+    uint32_t other[COUNT(list)], *work = lend(&lent, COUNT(registers));
+    memcpy(other, list, sizeof list);
+    other[place] = value;
+    says(t, what, matcher_run(FEED, other, COUNT(other), work, lent.len, &ready(&a)->place), &a, number, place);
+    holds(t, what, &lent, registers, 0, FILL);
+}
+
+/* Word 15 is the kind of instruction 5, a composition; word 29 is the unused one of instruction 9. */
+static void refused_runs(struct tally *t)
+{
+    one_refused_run(t, "run, unknown kind", 15, 16, 9);
+    one_refused_run(t, "run, a not earlier", 16, 5, 16);
+    one_refused_run(t, "run, b not earlier", 17, 5, 16);
+    one_refused_run(t, "run, class absent", 1, 1, 16);
+    one_refused_run(t, "run, label absent", 10, 1, 16);
+    one_refused_run(t, "run, unused word", 29, 1, 17);
+}
+
 /* A query with so many row words: its number, place and count, and what the row slice then holds. */
 static void one_query(struct tally *t, const char *what, size_t row_words, uint32_t number, size_t given, uint32_t rest)
 {
@@ -301,6 +324,7 @@ static void all_calls(struct tally *t)
     checks(t);
     translations(t);
     runs(t);
+    refused_runs(t);
     queries(t);
     sheets(t);
     paging(t);

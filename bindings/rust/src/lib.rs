@@ -30,7 +30,7 @@ pub const PAGES_BYTES: usize = 281_160;
 /// Why a call gives no answer: the number of the refusal, and the place that it is about.
 #[derive(Clone, Copy, PartialEq, Eq, Hash, Debug)]
 pub struct Refusal {
-    /// From 1 to 15.
+    /// From 1 to 17.
     pub number: u32,
     /// A word, an instruction or a count, as the number wants it, counted from 0; a line of a sheet, counted from 1; 0 where there is none.
     pub place: u32,
@@ -48,13 +48,15 @@ impl Refusal {
             6 => "a class, label or node that does not exist, or a pick above 1",
             7 => "no picked node",
             8 => "no instruction, over 1,024, or words not a multiple of 3",
-            9 => "unknown kind, operand not earlier, class or label absent, or unused word not 0",
+            9 => "unknown kind",
             10 => "the registers so far hold more pairs than the work slice takes",
             11 => "a register over 65,536 pairs",
             12 => "the row slice is too short for the rows, or the page buffer for the pages",
             13 => "the instruction slice is shorter than the translation",
             14 => "a breach of the sheet's format, or a sheet of more than 16,384 bytes",
             15 => "more than five picked nodes, and a page has five columns",
+            16 => "an operand that is not an earlier register, or a class or label that does not exist",
+            17 => "an unused word that is not 0",
             _ => "no refusal of this library",
         }
     }
@@ -67,7 +69,8 @@ impl fmt::Display for Refusal {
         match number {
             2..=4 => write!(f, " (word {place} of the feed)"),
             6 => write!(f, " (word {place} of the drawing)"),
-            9..=11 => write!(f, " (instruction {place})"),
+            9 | 16 | 17 => write!(f, " (word {place} of the list)"),
+            10 | 11 => write!(f, " (instruction {place})"),
             13 => write!(f, " ({place} instructions are needed)"),
             14 if place > 0 => write!(f, " (line {place} of the sheet)"),
             _ => Ok(()),
@@ -117,9 +120,10 @@ pub fn translate(feed: &[u32], drawing: &[u32], list: &mut [u32]) -> Result<usiz
     answer(number, place).map(|()| instructions)
 }
 
-/// Checks a feed and an instruction list, then runs the list: refusals 1 to 4 and 8 to 11. The work slice takes two words a pair. After the run,
-/// accepted or stopped by 10 or 11, it holds the finished registers, then zeros; after other refusals it is untouched. Zeroing takes time: lend near
-/// the need.
+/// Checks a feed and an instruction list, then runs the list: refusals 1 to 4, 8 to 11, 16 and 17. The place of 9, 16 and 17 is a word of the list:
+/// the kind of instruction i is word 3i, its a and b are the two behind it. The place of 10 and 11 is the instruction. The work slice takes two words
+/// a pair. After the run, accepted or stopped by 10 or 11, it holds the finished registers, then zeros; after other refusals it is untouched. Zeroing
+/// takes time: lend near the need.
 pub fn run(feed: &[u32], list: &[u32], work: &mut [u32]) -> Result<(), Refusal> {
     let mut place = 0;
     let (f, l, w) = (feed.as_ptr(), list.as_ptr(), work.as_mut_ptr());

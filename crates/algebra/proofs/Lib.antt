@@ -5,4 +5,5 @@ pub mod Registers
 pub mod Signatures
 pub mod Instructions
 pub mod Demand
+pub mod Faults
 pub mod Sizes

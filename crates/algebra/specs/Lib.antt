@@ -1,4 +1,5 @@
 pub mod Demand
+pub mod Faults
 pub mod Instructions
 pub mod Operators
 pub mod Run

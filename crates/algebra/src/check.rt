@@ -1,7 +1,8 @@
-// The check of an instruction list (document 01, refusals 8 and 9).
+// The check of an instruction list (document 01, refusal 8; document 02, E3: 9, 16 and 17).
 use crate::Shape;
 use crate::Step;
 use answers::Answer;
+use answers::then;
 use feed::check_feed;
 use feed::class_count;
 use feed::label_count;
@@ -9,9 +10,11 @@ use limits::LIST_WORDS;
 ghost use mathlib.Core.Path.{_≡_};
 ghost use Prim.Native.Nat.{_+_, _*_, _≤_};
 ghost use lib.ListN.{length, getD, getElem?};
+ghost use Rattle.limits.specs.Limits.{mostInstructions};
+ghost use Rattle.answers.specs.Verdict.{_then_};
 ghost use Rattle.answers.specs.Answers.{verdictOf};
-ghost use Rattle.algebra.specs.Instructions.{instruction, instructionsOf, signatures, isValid, checkEach, checkInstructions};
-ghost use Rattle.algebra.specs.inner.Parts.{checkInstructionList, Fit, instructionOf, operandsOf, areOperands};
+ghost use Rattle.algebra.specs.Instructions.{instruction, instructionsOf, signatures, checkOperand, checkUnused, checkWords, checkInstruction, checkEach, checkInstructions};
+ghost use Rattle.algebra.specs.inner.Parts.{checkInstructionList, Fit, Early, instructionOf, operandsOf};
 
 // The operands that a kind takes.
 fn shape_of(kind: u32) -> Shape
@@ -27,27 +30,68 @@ fn shape_of(kind: u32) -> Shape
     }
 }
 
-// Whether instruction i may have the operands a and b, in this shape.
-fn are_operands(feed: &[u32], i: u32, shape: Shape, a: u32, b: u32) -> bool
-    requires { ⌜ 2 ≤ length (now feed) ⌝ }
-    ensures { λ r. ⌜ r ≡ areOperands (now (feed .entry)) i (operandsOf shape) a b ⌝ }
+// An operand, which must be below this bound: the number of classes, of labels, or of earlier registers.
+fn check_operand(bound: u32, place: u32, w: u32) -> Answer
+    ensures { λ r. ⌜ verdictOf r ≡ checkOperand bound place w ⌝ }
 {
+    if w < bound {
+        return Answer::Accepted;
+    }
+    Answer::Operand(place)
+}
+
+// An unused word, which must be 0.
+fn check_unused(place: u32, w: u32) -> Answer
+    ensures { λ r. ⌜ verdictOf r ≡ checkUnused place w ⌝ }
+{
+    if w == 0 {
+        return Answer::Accepted;
+    }
+    Answer::Unused(place)
+}
+
+// An operand below this bound, then an unused word, of the instruction at this place.
+fn one_operand(bound: u32, at: u32, a: u32, b: u32) -> Answer
+    requires { ⌜ at ≤ 3 * mostInstructions ⌝ }
+    ensures { λ r. ⌜ verdictOf r ≡ checkOperand bound (at + 1) a then checkUnused (at + 2) b ⌝ }
+{
+    let operand = check_operand(bound, at + 1, a);
+    let unused = check_unused(at + 2, b);
+    then(operand, unused)
+}
+
+// Two operands below this bound, of the instruction at this place.
+fn two_operands(bound: u32, at: u32, a: u32, b: u32) -> Answer
+    requires { ⌜ at ≤ 3 * mostInstructions ⌝ }
+    ensures { λ r. ⌜ verdictOf r ≡ checkOperand bound (at + 1) a then checkOperand bound (at + 2) b ⌝ }
+{
+    let first = check_operand(bound, at + 1, a);
+    let second = check_operand(bound, at + 2, b);
+    then(first, second)
+}
+
+// What is bad in instruction i, which has this shape and these operand words.
+fn check_words(feed: &[u32], i: u32, shape: Shape, a: u32, b: u32) -> Answer
+    requires { ⌜ Early (now feed) i ⌝ }
+    ensures { λ r. ⌜ verdictOf r ≡ checkWords (now (feed .entry)) i (operandsOf shape) a b ⌝ }
+{
+    let place = 3 * i;
     match shape {
-        Shape::Class => (a < class_count(feed)) & (b == 0),
-        Shape::Label => (a < label_count(feed)) & (b == 0),
-        Shape::One => (a < i) & (b == 0),
-        Shape::Two => (a < i) & (b < i),
-        Shape::Value => a < i,
-        Shape::Unknown => false,
+        Shape::Class => one_operand(class_count(feed), place, a, b),
+        Shape::Label => one_operand(label_count(feed), place, a, b),
+        Shape::One => one_operand(i, place, a, b),
+        Shape::Two => two_operands(i, place, a, b),
+        Shape::Value => check_operand(i, place + 1, a),
+        Shape::Unknown => Answer::UnknownKind(place),
     }
 }
 
-// Whether instruction i, of this kind and with these operands, breaks no rule.
-pub fn is_valid(feed: &[u32], i: u32, kind: u32, a: u32, b: u32) -> bool
-    requires { ⌜ 2 ≤ length (now feed) ⌝ }
-    ensures { λ r. ⌜ r ≡ isValid (now (feed .entry)) i (instruction kind a b) ⌝ }
+// What is bad in instruction i.
+fn check_instruction(feed: &[u32], i: u32, ins: Step) -> Answer
+    requires { ⌜ Early (now feed) i ⌝ }
+    ensures { λ r. ⌜ verdictOf r ≡ checkInstruction (now (feed .entry)) i (instructionOf ins) ⌝ }
 {
-    are_operands(feed, i, shape_of(kind), a, b)
+    check_words(feed, i, shape_of(ins.kind), ins.a, ins.b)
 }
 
 // Instruction i of the list.
@@ -63,7 +107,7 @@ pub fn instruction_at(list: &[u32], i: usize) -> Step
     }
 }
 
-// The first instruction that breaks a rule.
+// What is bad in the first instruction that breaks a rule.
 fn check_each(feed: &[u32], list: &[u32]) -> Answer
     requires { ⌜ Fit (now feed) (now list) ⌝ }
     ensures { λ r. ⌜ verdictOf r ≡ checkEach (now (feed .entry)) 0 (instructionsOf (now (list .entry))) ⌝ }
@@ -71,13 +115,11 @@ fn check_each(feed: &[u32], list: &[u32]) -> Answer
     let count = list.len() / 3;
     let mut i = 0;
     while i < count {
-        let step = instruction_at(list, i);
-        let place = i as u32;
-        if is_valid(feed, place, step.kind, step.a, step.b) {
-            i += 1;
-        } else {
-            return Answer::Invalid(place);
-        }
+        let found = check_instruction(feed, i as u32, instruction_at(list, i));
+        let Answer::Accepted = found else {
+            return found;
+        };
+        i += 1;
     }
     Answer::Accepted
 }

@@ -158,12 +158,18 @@ fn refused() {
     let double = [1u32, 0, 2, 5, 5, 5, 5];
     let marked = [1u32, 0, 32769, 5, 5];
     let partial = [0u32, 0, 0, 2, 0];
-    let later = [0u32, 0, 0, 2, 1, 0];
+    let unknown = [0u32, 0, 0, 16, 1, 1];
+    let absent = [0u32, 1, 7];
+    let later = [0u32, 0, 0, 3, 0, 1];
+    let unused = [0u32, 0, 0, 2, 0, 7];
     let mut work = [7u32; 4];
     show(&mut work, b"a pair twice in the feed", &double, &partial, 0);
     show(&mut work, b"a mark on a class", &marked, &partial, 0);
     show(&mut work, b"a part of an instruction", &feed, &partial, 0);
-    show(&mut work, b"an operand not earlier", &feed, &later, 0);
+    show(&mut work, b"an unknown kind", &feed, &unknown, 0);
+    show(&mut work, b"an absent class", &feed, &absent, 0);
+    show(&mut work, b"a second operand not earlier", &feed, &later, 0);
+    show(&mut work, b"an unused word not 0", &feed, &unused, 0);
 }
 
 fn main() {

@@ -2,7 +2,7 @@
 
 ghost use mathlib.Core.Path.{_≡_};
 ghost use lib.Dec.{eqb};
-ghost use Rattle.answers.specs.Verdict.{number, isAccepted, Says};
+ghost use Rattle.answers.specs.Verdict.{number, isAccepted, Says, _then_};
 ghost use Rattle.answers.specs.Answers.{verdictOf};
 
 // How a call ends: each refusal has its number in document 01 and the values that it gives there.
@@ -25,8 +25,8 @@ pub enum Answer {
     Unpicked,
     // 8: no instruction, more than 1,024, or a part of one.
     ListLength,
-    // 9: this instruction has an unknown kind or an operand that it may not have.
-    Invalid(u32),
+    // 9: the kind at this place of the list is unknown.
+    UnknownKind(u32),
     // 10: there is no room for this register.
     Full(u32),
     // 11: this register has more than 65,536 pairs.
@@ -39,6 +39,10 @@ pub enum Answer {
     Breach(u32),
     // 15: more nodes are picked than a page has columns.
     TooWide,
+    // 16: the operand at this place of the list is no earlier register, or a class or label that does not exist.
+    Operand(u32),
+    // 17: the unused word at this place of the list is not 0.
+    Unused(u32),
 }
 
 // Whether the answer accepts.
@@ -61,6 +65,16 @@ pub fn zeroes(answer: Answer) -> bool
     }
 }
 
+// Two checks in turn: the answer of the first, or of the next where the first accepts.
+pub fn then(first: Answer, next: Answer) -> Answer
+    ensures { λ r. ⌜ verdictOf r ≡ verdictOf first then verdictOf next ⌝ }
+{
+    let Answer::Accepted = first else {
+        return first;
+    };
+    next
+}
+
 // A number and a place.
 pub struct Said(pub u32, pub u32);
 
@@ -78,13 +92,15 @@ pub fn number_and_place(answer: Answer) -> Said
         Answer::Missing(p) => Said(6, p),
         Answer::Unpicked => Said(7, 0),
         Answer::ListLength => Said(8, 0),
-        Answer::Invalid(i) => Said(9, i),
+        Answer::UnknownKind(p) => Said(9, p),
         Answer::Full(i) => Said(10, i),
         Answer::Large(i) => Said(11, i),
         Answer::TooMany => Said(12, 0),
         Answer::Short(n) => Said(13, n),
         Answer::Breach(line) => Said(14, line),
         Answer::TooWide => Said(15, 0),
+        Answer::Operand(p) => Said(16, p),
+        Answer::Unused(p) => Said(17, p),
     }
 }
 

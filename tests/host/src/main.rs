@@ -6,6 +6,7 @@ mod cases;
 mod checks;
 mod examples;
 mod listings;
+mod lists;
 mod manual;
 mod manual_limits;
 mod manual_pages;
@@ -101,6 +102,7 @@ fn few(tally: &mut Tally) {
     runs::belt(tally);
     runs::random(tally, 100);
     runs::long(tally, 2);
+    lists::few(tally);
     examples::sources(tally);
     manual::examples(tally);
     queries::few(tally, 100);
@@ -132,6 +134,7 @@ fn main() {
     runs::random(&mut tally, 300_000);
     runs::long(&mut tally, 1_000);
     runs::large(&mut tally, 800);
+    lists::all(&mut tally);
     examples::belt(&mut tally);
     examples::sources(&mut tally);
     manual::all(&mut tally);

@@ -226,7 +226,7 @@ fn touching(tally: &mut Tally) {
     says(tally, &format!("of a two-way label {} more", with_comma(model::MARK)));
 }
 
-/// The table of kinds: instruction i has kind i, register i holds what is printed, and its operands are of the sort that is named.
+/// The table of kinds: instruction i has kind i, register i holds what is printed, and its words are of the sort that is named.
 fn kinds(tally: &mut Tally) {
     let feed = words(tally, "kinds-feed", 1);
     let table = table("### The sixteen kinds");
@@ -235,18 +235,22 @@ fn kinds(tally: &mut Tally) {
     let work: Vec<u32> = table.iter().flat_map(|row| numbers(&digits(row[6]))).collect();
     runs(tally, "the manual's kinds", &feed, &list, &work);
     tally.same("the manual's kinds: how many", &table.len(), &16, &[]);
+    says(tally, "instruction i has its kind at 3i, a at 3i + 1 and b at 3i + 2.");
     for (i, row) in table.iter().enumerate() {
         tally.same("the manual's kinds: number", &(row[0].parse::<usize>(), list[3 * i] as usize), &(Ok(i), i), &[]);
-        for (operand, sort) in [(1, row[2]), (2, row[3])] {
-            let (word, verdict) = match sort {
-                "class" | "label" | "0" => (1, (9, i as u32)),
-                "register" => (i as u32, (9, i as u32)),
-                _ => (u32::MAX, ACCEPTED),
+        for (place, sort) in (3 * i..).zip(["kind", row[2], row[3]]) {
+            let (word, number) = match sort {
+                "kind" => (16, 9),
+                "class" | "label" => (1, 16),
+                "register" => (i as u32, 16),
+                "0" => (1, 17),
+                _ => (u32::MAX, 0),
             };
+            let verdict = if number == 0 { ACCEPTED } else { (number, place as u32) };
             let mut list = list.clone();
-            list[3 * i + operand] = word;
+            list[place] = word;
             let case = Case { feed: feed.clone(), list, lengths: [0, 999, 0], ..Case::default() };
-            tally.same("the manual's kinds: operands", &ask("matcher_run", &case).verdict, &verdict, &case.list);
+            tally.same("the manual's kinds: a word changed", &ask("matcher_run", &case).verdict, &verdict, &case.list);
         }
     }
 }
@@ -287,7 +291,7 @@ fn with_comma(n: u32) -> String {
 /// Each row of the table of refusals: its example gives its answer, whose number it stands under.
 fn refusals(tally: &mut Tally) {
     let sample = sample(tally);
-    let mut met = [false; 16];
+    let mut met = [false; 18];
     for row in table("## 8. Refusals") {
         let (given, answer) = (row[3].trim_matches('`'), row[4].trim_matches('`'));
         let (call, case) = example(&sample, given);
@@ -304,7 +308,7 @@ fn refusals(tally: &mut Tally) {
         }
         met[row[0].parse::<usize>().unwrap()] = true;
     }
-    tally.same("the manual has every refusal", &met[1..], &[true; 15][..], &[]);
+    tally.same("the manual has every refusal", &met[1..], &[true; 17][..], &[]);
 }
 
 /// Numbers as '1 to 4, 8, 9'.
@@ -336,7 +340,7 @@ fn leaves(tally: &mut Tally) {
     let calls: Vec<(&str, &Vec<&str>)> = rows.map(|row| (row[0].trim_matches('`'), row)).collect();
     for (call, row) in &calls {
         let answers: Vec<(&Case, Left)> = cases.iter().map(|case| (case, ask(call, case))).collect();
-        for number in (0..=14).filter(|&number| is_among(row[1], number)) {
+        for number in (0..=17).filter(|&number| is_among(row[1], number)) {
             let met = answers.iter().any(|(_, left)| left.verdict.0 == number);
             tally.same(&format!("{call} answers {number}"), &met, &true, &[]);
         }

@@ -97,7 +97,7 @@ struct Met {
 impl Met {
     fn show(&self, tally: &mut Tally) {
         tally.met_of("translations by number", &self.translate, &[0, 1, 2, 3, 4, 5, 6, 7, 13]);
-        // the list of a query is a translation, so 8 and 9 are left to runs
+        // the list of a query is a translation, so 8, 9, 16 and 17 are left to runs
         tally.met_of("queries by number", &self.query, &[0, 1, 2, 3, 4, 5, 6, 7, 10, 11, 12, 13]);
         self.causes.show_pairs(tally, "feed and drawing", &[1, 2, 3, 4], &[5, 6, 7]);
         self.causes.show_pairs(tally, "list, run and rows", &[13], &[10, 11, 12]);

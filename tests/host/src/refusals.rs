@@ -5,7 +5,7 @@ use matcher::Refusal;
 use std::collections::BTreeSet;
 
 /// The ends of the words for place 7, by number from 1.
-const PLACES: [&str; 15] = [
+const PLACES: [&str; 17] = [
     "",
     " (word 7 of the feed)",
     " (word 7 of the feed)",
@@ -14,13 +14,15 @@ const PLACES: [&str; 15] = [
     " (word 7 of the drawing)",
     "",
     "",
-    " (instruction 7)",
+    " (word 7 of the list)",
     " (instruction 7)",
     " (instruction 7)",
     "",
     " (7 instructions are needed)",
     " (line 7 of the sheet)",
     "",
+    " (word 7 of the list)",
+    " (word 7 of the list)",
 ];
 
 pub fn words(tally: &mut Tally) {
@@ -35,7 +37,7 @@ pub fn words(tally: &mut Tally) {
     // a sheet that is too long has no line
     let text = Refusal { number: 14, place: 0 }.to_string();
     tally.same("words of a sheet too long", &text.contains(" (line "), &false, &[]);
-    for number in [0, 16] {
+    for number in [0, 18] {
         let text = Refusal { number, place: 7 }.to_string();
         tally.same("no refusal", &text, &format!("refused {number} 7: no refusal of this library"), &[number]);
     }

@@ -66,11 +66,15 @@ fn length(r: &mut Random, tables: &[model::Table], sort: usize) -> usize {
     }
 }
 
+/// Why a list is refused with 9 (the first), with 16, and with 17 (the last).
+pub const REASONS: [&str; 6] = ["unknown kind", "class absent", "label absent", "a not earlier", "b not earlier", "unused word not 0"];
+
 /// What the runs of a test met.
 #[derive(Default)]
 struct Met {
-    numbers: [usize; 12],
+    numbers: [usize; 18],
     lengths: [usize; 8],
+    reasons: [usize; 6],
     /// by kind: registers finished with some pairs, runs stopped there by 10 and by 11
     finished: [usize; 16],
     full: [usize; 16],
@@ -106,6 +110,13 @@ impl Met {
         println!("{what}: 11 without room {}, 10 before an 11 {}", self.large_and_full, self.full_then_large);
         tally.covers(what, self.large_and_full > 0 && self.full_then_large > 0);
     }
+
+    /// Every 9, 16 and 17 has its reason, and every reason was met.
+    fn show_reasons(&self, tally: &mut Tally, what: &str) {
+        let refused: usize = [9, 16, 17].iter().map(|&number| self.numbers[number]).sum();
+        tally.same(&format!("{what}: 9, 16 and 17 with a reason"), &self.reasons.iter().sum(), &refused, &[]);
+        tally.met_by_name(&format!("{what}: reasons for 9, 16 and 17"), &REASONS.map(String::from), &self.reasons);
+    }
 }
 
 /// A list that passes its check over this feed where the feed has tables: made blindly, made to live, made to grow, or translated.
@@ -124,15 +135,34 @@ fn some_list(r: &mut Random, feed: &[u32]) -> Vec<u32> {
     }
 }
 
-/// Why an instruction gives 9: unknown kind, class absent, label absent, first operand not earlier, second not earlier, unused word.
-fn reason(feed: &[u32], i: u32, w: &[u32]) -> usize {
-    match w[0] {
-        16.. => 0,
-        0 if w[1] >= feed[0] => 1,
-        1 if w[1] >= feed[1] => 2,
-        2.. if w[1] >= i => 3,
-        3..=6 | 10 => 4,
-        _ => 5,
+/// Which of `REASONS` a 9, 16 or 17 is, by the word at its place; none where such a word cannot give that number, and for other numbers.
+fn reason(list: &[u32], (number, place): model::Verdict) -> Option<usize> {
+    let kind = list.get(place as usize / 3 * 3)?;
+    match (number, place % 3, kind) {
+        (9, 0, 16..) => Some(0),
+        (16, 1, 0) => Some(1),
+        (16, 1, 1) => Some(2),
+        (16, 1, 2..=15) => Some(3),
+        (16, 2, 3..=6 | 10) => Some(4),
+        (17, 2, 0..=2 | 7..=9 | 11..=13) => Some(5),
+        _ => None,
+    }
+}
+
+/// The list of case i: as it is, damaged, or damaged twice.
+fn perhaps_damaged(r: &mut Random, i: usize, feed: &[u32], valid: &[u32], causes: &mut Causes) -> Vec<u32> {
+    match i % 4 {
+        0 | 1 => valid.to_vec(),
+        2 => {
+            let mut list = valid.to_vec();
+            cases::damage(r, &mut list);
+            list
+        }
+        _ => {
+            let (a, b, both) = twice_damaged(r, valid, |l| model::check_list(feed, l));
+            causes.note(a, b);
+            both
+        }
     }
 }
 
@@ -140,9 +170,7 @@ fn reason(feed: &[u32], i: u32, w: &[u32]) -> usize {
 pub fn random(tally: &mut Tally, cases: usize) {
     let mut r = Random::new(3);
     let mut met = Met::default();
-    let mut reasons = [0; 6];
-    let mut list_causes = Causes::default();
-    let mut causes = Causes::default();
+    let (mut list_causes, mut causes) = (Causes::default(), Causes::default());
     for i in 0..cases {
         let valid_feed = if r.one_in(10) { cases::feed(&mut r) } else { cases::full_feed(&mut r) };
         let valid_list = some_list(&mut r, &valid_feed);
@@ -150,19 +178,7 @@ pub fn random(tally: &mut Tally, cases: usize) {
         if r.one_in(8) {
             cases::damage(&mut r, &mut feed);
         }
-        let list = match i % 4 {
-            0 | 1 => valid_list.clone(),
-            2 => {
-                let mut list = valid_list.clone();
-                cases::damage(&mut r, &mut list);
-                list
-            }
-            _ => {
-                let (a, b, both) = twice_damaged(&mut r, &valid_list, |l| model::check_list(&valid_feed, l));
-                list_causes.note(a, b);
-                both
-            }
-        };
+        let list = perhaps_damaged(&mut r, i, &valid_feed, &valid_list, &mut list_causes);
         // the length follows what the list without its breach needs; a slice that is too short is the third cause
         let tables = match model::check_list(&valid_feed, &valid_list) {
             model::ACCEPTED => model::tables(&model::read_feed(&valid_feed), &valid_list),
@@ -179,26 +195,24 @@ pub fn random(tally: &mut Tally, cases: usize) {
         let verdict = compare(tally, "run", &feed, &list, words, |work| model::run(&feed, &list, work));
         met.numbers[verdict.0 as usize] += 1;
         met.lengths[sort] += 1;
-        if verdict.0 == 9 {
-            reasons[reason(&feed, verdict.1, &list[3 * verdict.1 as usize..])] += 1;
-        }
+        reason(&list, verdict).into_iter().for_each(|k| met.reasons[k] += 1);
         if feed == valid_feed && list == valid_list {
             met.note(&list, &tables, words);
         }
     }
-    met.show(tally, "random runs", &[0, 1, 2, 3, 4, 8, 9, 10, 11], &[10]);
-    tally.met("random runs: reasons for 9", &reasons);
+    met.show(tally, "random runs", &[0, 1, 2, 3, 4, 8, 9, 10, 11, 16, 17], &[10]);
+    met.show_reasons(tally, "random runs");
     let shown: Vec<String> = LENGTHS.iter().zip(met.lengths).map(|(name, n)| format!("{name}: {n}")).collect();
     println!("random runs by length of the slice: {}", shown.join(", "));
-    list_causes.show_pairs(tally, "list, list", &[8, 9], &[8, 9]);
-    causes.show_pairs(tally, "feed, list or size", &[1, 2, 3, 4], &[8, 9, 10, 11]);
-    causes.show_pairs(tally, "list, size", &[8, 9], &[10, 11]);
+    list_causes.show_pairs(tally, "list, list", &[8, 9, 16, 17], &[8, 9, 16, 17]);
+    causes.show_pairs(tally, "feed, list or size", &[1, 2, 3, 4], &[8, 9, 16, 17, 10, 11]);
+    causes.show_pairs(tally, "list, size", &[8, 9, 16, 17], &[10, 11]);
 }
 
 /// Lists of up to 1,024 instructions, and past them.
 pub fn long(tally: &mut Tally, cases: usize) {
     let mut r = Random::new(4);
-    let mut met = [0; 12];
+    let mut met = [0; 18];
     for _ in 0..cases {
         let feed = cases::full_feed(&mut r);
         let mut list = cases::lively_list(&mut r, &feed, 1_100, 40);
@@ -214,7 +228,7 @@ pub fn long(tally: &mut Tally, cases: usize) {
         let verdict = compare(tally, "long run", &feed, &list, words, |work| model::run(&feed, &list, work));
         met[verdict.0 as usize] += 1;
     }
-    tally.met_of("long runs by number", &met, &[0, 8, 9, 10]);
+    tally.met_of("long runs by number", &met, &[0, 8, 9, 10, 16, 17]);
 }
 
 /// Operands of up to 65,536 pairs.

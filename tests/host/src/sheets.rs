@@ -281,7 +281,7 @@ pub fn mutations(tally: &mut Tally) {
 // ---- random sheets
 
 /// The numbers that a sheet can give. The others cannot come up: 1, for the feed's length follows its counts; 2, for classes and labels past
-/// the ceilings are 14, and 16,384 bytes hold fewer than 4,096 lines; 4, for a class line has one object; 8 and 9, for the list is a
+/// the ceilings are 14, and 16,384 bytes hold fewer than 4,096 lines; 4, for a class line has one object; 8, 9, 16 and 17, for the list is a
 /// translation; 13, for every translation has room.
 const NUMBERS: [usize; 9] = [0, 3, 5, 6, 7, 10, 11, 12, 14];
 

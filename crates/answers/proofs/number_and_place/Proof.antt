@@ -69,10 +69,20 @@ returns-16 : tie.Need-returns-16
 unfolding number verdictOf location
 returns-16 c = search needs
 
+returns-17 : tie.Need-returns-17
+unfolding number verdictOf location
+returns-17 c = search needs
+
+returns-18 : tie.Need-returns-18
+unfolding number verdictOf location
+returns-18 c = search needs
+
 pub number-and-place-spec : {M : Type 1} → statement M
 number-and-place-spec =
     tie.close
     (tie.spec
+    (λ c. search needs)
+    (λ c. search needs)
     (λ c. search needs)
     (λ c. search needs)
     (λ c. search needs)
@@ -104,4 +114,6 @@ number-and-place-spec =
     returns-13
     returns-14
     returns-15
-    returns-16)
+    returns-16
+    returns-17
+    returns-18)
