@@ -78,5 +78,6 @@ leaves v e = rw e
 pub stands : (a : Answer) (v : Verdict) → OneOf refusals (tagOf the-type a) → verdictOf a ≡ verdictOf a then v
 stands a v o = sym (refused-first (verdictOf a) v (sym (refuses a o)))
 
+-- two answers in turn, by the verdicts that they say
 pub in-turn : (a b c : Answer) {v w : Verdict} → verdictOf c ≡ verdictOf a then verdictOf b → verdictOf a ≡ v → verdictOf b ≡ w → verdictOf c ≡ v then w
 in-turn a b c {v} e f g = e ∙ ap (λ (x : Verdict). x then verdictOf b) f ∙ ap (λ (x : Verdict). v then x) g
