@@ -19,10 +19,10 @@ static const struct {
     const char *looks_up;
 } drawing[] = {
     {"", NULL},
-    {"node class pick", NULL},
-    {"refused cap 1", "cap"},
-    {"neck neck 0", "neck"},
-    {"body body 1", "body"},
+    {"node class pick fixed", NULL},
+    {"refused cap 1 -", "cap"},
+    {"neck neck 0 -", "neck"},
+    {"body body 1 -", "body"},
     {"", NULL},
     {"edge source target", NULL},
     {"above refused neck", "above"},

@@ -30,16 +30,19 @@
 #include <stddef.h>
 #include <stdint.h>
 
-#define MATCHER_VERSION "2.0.0"
-#define MATCHER_VERSION_MAJOR 2
+#define MATCHER_VERSION "3.0.0"
+#define MATCHER_VERSION_MAJOR 3
 #define MATCHER_VERSION_MINOR 0
 #define MATCHER_VERSION_PATCH 0
 
-/* Words that take every translation: 864 instructions. */
-#define MATCHER_LIST_WORDS 2592
+/* Words that take every translation: 876 instructions. */
+#define MATCHER_LIST_WORDS 2628
 
 /* By how much the count word of a two-way label is raised. */
 #define MATCHER_TWO_WAY 32768
+
+/* The third word of a node that may be any object of its class. */
+#define MATCHER_ANY_OBJECT 65536
 
 /* Bytes that take every listing. */
 #define MATCHER_LISTING_BYTES 24732
@@ -54,7 +57,11 @@ extern "C" {
 /* Checks a feed: 1 to 4. The count word of a two-way label, whose pairs count in either direction, is raised by MATCHER_TWO_WAY. */
 uint32_t matcher_check_feed(const uint32_t *feed, size_t feed_len, uint32_t *place);
 
-/* Checks a feed, then a drawing: 1 to 7. */
+/* Checks a feed, then a drawing: 1 to 7. A drawing is the numbers n of nodes and e of edges, then three words a node: its class, 1
+ * where it is picked and 0 where not, and the one object that it must be, or MATCHER_ANY_OBJECT; then three words an edge: its label,
+ * its source and its target. It has exactly 2 + 3n + 3e words (else 5). 6 is for the first word that is wrong: a class, label or node
+ * that does not exist, a pick above 1, or a third word above MATCHER_ANY_OBJECT; its place is that word. A fixed object that is not in
+ * its class is no refusal: the drawing then has no rows. */
 uint32_t matcher_check_drawing(const uint32_t *feed, size_t feed_len, const uint32_t *drawing, size_t drawing_len, uint32_t *place);
 
 /* Checks a feed and a drawing, then translates the drawing: 1 to 7 and 13. The list then holds the translation, three words an

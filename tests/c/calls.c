@@ -1,60 +1,21 @@
-/* Every call of matcher.h from C: the sample's answers and those of a two-way label, with words before and behind all that is written; slices
- * of length 0 at a null pointer; slices that were never written, for valgrind; and several threads at once. Compiled as C99 and as C++.
+/* Every call of matcher.h from C: the answers of samples.h, with words before and behind all that is written; slices of length 0 at a null pointer;
+ * slices that were never written, for valgrind; and several threads at once. Compiled as C99 and as C++.
  * The last line is 'N passed, M failed'. With `--few` the threads ask less often, for valgrind.
  */
 #include "matcher.h"
+#include "samples.h"
 
 #include <pthread.h>
 #include <stdio.h>
 #include <stdlib.h>
 #include <string.h>
 
-/* ---- the sample: two regions with one between them */
+/* ---- the samples as arguments */
 
-static const uint32_t feed[] = {1, 1, 4, 3, 1, 1, 2, 2, 3, 3, 4, 4, 1, 2, 2, 3, 3, 4};
-static const uint32_t drawing[] = {3, 2, 0, 1, 0, 0, 0, 1, 0, 0, 1, 0, 1, 2};
-static const uint32_t list[] = {0, 0, 0, 0, 0, 0, 0, 0, 0, 1, 0, 0, 1, 0, 0, 3, 3, 1, 3, 5, 4, 3, 0, 6, 3, 7, 2, 7, 8, 0, 8, 8, 0, 9, 8, 0};
-static const uint32_t registers[] = {
-    1, 1, 2, 2, 3, 3, 4, 4, 1, 1, 2, 2, 3, 3, 4, 4, 1, 1, 2, 2, 3, 3, 4, 4, /* the class, three times */
-    1, 2, 2, 3, 3, 4, 1, 2, 2, 3, 3, 4, 1, 2, 2, 3, 3, 4,                   /* the label twice, and its composition with m */
-    1, 3, 2, 4, 1, 3, 2, 4, 1, 3, 2, 4,                                     /* the chain, from a, to b */
-    589824, 1, 589825, 2, 589824, 3, 589825, 4,                             /* left tag, right tag */
-    589824, 589824, 589825, 589825                                          /* tau */
-};
-static const uint32_t rows[] = {1, 3, 2, 4};
-static const char sheet[] = "class object\nregion 1\nregion 2\nregion 3\nregion 4\n\nlabel from to\ntouch 1 2\ntouch 2 3\ntouch 3 4\n\n"
-                            "node class pick\na region 1\nm region 0\nb region 1\n\nedge source target\ntouch a m\ntouch m b\n";
-static const char listing[] = "a b\n1 3\n2 4\n";
-static const char pages[] = "            a            b                                       \n"
-                            "            1            3                                       \n"
-                            "            2            4                                       \n"
-                            "                                                           page 1\n";
-
-/* ---- a two-way label: region 1 of the first class, region 2 of the second, and the pair (2,1), which is met from 1 to 2 as well. */
-
-static const uint32_t two_way_feed[] = {2, 1, 1, 1, 32768 + 1, 1, 1, 2, 2, 2, 1};
-static const uint32_t two_way_drawing[] = {2, 1, 0, 1, 1, 1, 0, 0, 1};
-static const uint32_t two_way_list[] = {0, 0, 0, 0, 1, 0, 1, 0, 0, 3, 0, 2, 3, 3, 1, 7, 4, 0, 8, 4, 0, 9, 4, 0};
-static const uint32_t two_way_registers[] = {
-    1, 1, 2, 2, 1, 2, 2, 1,                    /* the classes, the label in both directions */
-    1, 2, 1, 2,                                /* from the first class, to the second */
-    327680, 1, 327680, 2, 327680, 327680       /* left tag, right tag, tau */
-};
-static const uint32_t two_way_rows[] = {1, 2};
-static const char two_way_sheet[] = "class object\na 1\nb 2\n\nlabel from to\ntouch* 2 1\n\n"
-                                    "node class pick\nx a 1\ny b 1\n\nedge source target\ntouch* x y\n";
-static const char two_way_listing[] = "x y\n1 2\n";
-
-/* ---- one pick more than a page has columns */
-
-static const char six[] = "class object\na 7\n\nlabel from to\n\nnode class pick\nu a 1\nv a 1\nw a 1\nx a 1\ny a 1\nz a 1\n\nedge source target\n";
-
-#define COUNT(words) (sizeof(words) / sizeof(words)[0])
 #define FEED feed, COUNT(feed)
 #define DRAWING drawing, COUNT(drawing)
 #define LIST list, COUNT(list)
 #define SHEET (const uint8_t *)sheet, sizeof sheet - 1
-#define TWO_WAY two_way_feed, COUNT(two_way_feed), two_way_drawing, COUNT(two_way_drawing)
 
 /* ---- comparing */
 
@@ -160,8 +121,8 @@ static void says(struct tally *t, const char *what, uint32_t found, const struct
 static void checks(struct tally *t)
 {
     static const uint32_t unequal[] = {1, 0, 1, 5, 6};
-    static const uint32_t unknown[] = {1, 0, 7, 1};
-    static const uint32_t both[] = {1, 0, 0, 1};
+    static const uint32_t unknown[] = {1, 0, 7, 1, ANY}, high[] = {1, 0, 0, 1, ANY + 1}, old[] = {1, 0, 0, 1};
+    static const uint32_t both[] = {1, 0, 0, 1, ANY};
     struct answer a;
     uint32_t number = matcher_check_feed(FEED, &ready(&a)->place);
     says(t, "check_feed", number, &a, 0, 0);
@@ -171,8 +132,10 @@ static void checks(struct tally *t)
     says(t, "check_drawing", number, &a, 0, 0);
     number = matcher_check_drawing(FEED, unknown, COUNT(unknown), &ready(&a)->place);
     says(t, "check_drawing, refused", number, &a, 6, 2);
+    says(t, "check_drawing, 65,537", matcher_check_drawing(FEED, high, COUNT(high), &ready(&a)->place), &a, 6, 4);
+    says(t, "check_drawing, two words a node", matcher_check_drawing(FEED, old, COUNT(old), &ready(&a)->place), &a, 5, 0);
     /* slices that are only read may overlap: one class without objects, and one node of it */
-    number = matcher_check_drawing(both, 3, both, 4, &ready(&a)->place);
+    number = matcher_check_drawing(both, 3, both, COUNT(both), &ready(&a)->place);
     says(t, "check_drawing, overlapping", number, &a, 0, 0);
 }
 
@@ -229,24 +192,27 @@ static void refused_runs(struct tally *t)
     one_refused_run(t, "run, unused word", 29, 1, 17);
 }
 
-/* A query with so many row words: its number, place and count, and what the row slice then holds. */
-static void one_query(struct tally *t, const char *what, size_t row_words, uint32_t number, size_t given, uint32_t rest)
+/* A query with so many work and row words: number and place, and how many words of registers and of rows there are; `rest` stands behind the rows. */
+static void one_query(struct tally *t, const char *what, const struct question *q, size_t work_words, size_t row_words, uint32_t number,
+                      uint32_t place, size_t done, size_t given, uint32_t rest)
 {
     struct answer a;
     struct words to, work, out;
-    uint32_t *l = lend(&to, COUNT(list)), *w = lend(&work, COUNT(registers)), *r = lend(&out, row_words);
-    uint32_t found = matcher_query(FEED, DRAWING, l, to.len, w, work.len, r, out.len, &ready(&a)->place, &a.count);
-    says(t, what, found, &a, number, 0);
+    uint32_t *l = lend(&to, q->list.n), *w = lend(&work, work_words), *r = lend(&out, row_words);
+    uint32_t found = matcher_query(q->feed.words, q->feed.n, q->drawing.words, q->drawing.n, l, to.len, w, work.len, r, out.len,
+                                   &ready(&a)->place, &a.count);
+    says(t, what, found, &a, number, place);
     same(t, what, a.count, given);
-    holds(t, what, &to, LIST, 0);
-    holds(t, what, &work, registers, COUNT(registers), 0);
-    holds(t, what, &out, rows, given, rest);
+    holds(t, what, &to, q->list.words, q->list.n, 0);
+    holds(t, what, &work, q->registers.words, done, 0);
+    holds(t, what, &out, q->rows.words, given, rest);
 }
 
 static void queries(struct tally *t)
 {
-    one_query(t, "query", COUNT(rows) + 3, 0, COUNT(rows), FILL);
-    one_query(t, "query, refused", COUNT(rows) - 1, 12, 0, 0);
+    const size_t exact = COUNT(registers);
+    one_query(t, "query", &sample, exact, COUNT(rows) + 3, 0, 0, exact, COUNT(rows), FILL);
+    one_query(t, "query, refused", &sample, exact, COUNT(rows) - 1, 12, 0, exact, 0, 0);
 }
 
 static void sheets(struct tally *t)
@@ -287,20 +253,6 @@ static void paging(struct tally *t)
     one_paging(t, "sheet_pages, a breach", "x", 1, exact, 14, 1, 0, FILL & 0xff);
 }
 
-/* A query over a two-way label with so many work words: number and place, and how many words of registers and of rows there are. */
-static void two_way_query(struct tally *t, const char *what, size_t work_words, uint32_t number, uint32_t place, size_t done, size_t given)
-{
-    struct answer a;
-    struct words to, work, out;
-    uint32_t *l = lend(&to, COUNT(two_way_list)), *w = lend(&work, work_words), *r = lend(&out, COUNT(two_way_rows) + 1);
-    uint32_t found = matcher_query(TWO_WAY, l, to.len, w, work.len, r, out.len, &ready(&a)->place, &a.count);
-    says(t, what, found, &a, number, place);
-    same(t, what, a.count, given);
-    holds(t, what, &to, two_way_list, COUNT(two_way_list), 0);
-    holds(t, what, &work, two_way_registers, done, 0);
-    holds(t, what, &out, two_way_rows, given, FILL);
-}
-
 static void two_way(struct tally *t)
 {
     static const uint32_t marked_class[] = {1, 0, 32768}, no_pairs[] = {0, 1, 32768}, too_many[] = {0, 1, 36865};
@@ -312,11 +264,30 @@ static void two_way(struct tally *t)
     says(t, "a two-way label, no pairs", matcher_check_feed(no_pairs, COUNT(no_pairs), &ready(&a)->place), &a, 0, 0);
     says(t, "a two-way label, too many", matcher_check_feed(too_many, COUNT(too_many), &ready(&a)->place), &a, 2, 2);
     says(t, "a marked class", matcher_check_feed(marked_class, COUNT(marked_class), &ready(&a)->place), &a, 2, 2);
-    two_way_query(t, "query, two-way", exact, 0, 0, exact, COUNT(two_way_rows));
-    two_way_query(t, "query, two-way, a word short", exact - 1, 10, 7, exact - 2, 0);
-    two_way_query(t, "query, two-way, no room for the label", 7, 10, 2, 4, 0);
+    one_query(t, "query, two-way", &two_way_sample, exact, 3, 0, 0, exact, COUNT(two_way_rows), FILL);
+    one_query(t, "query, two-way, a word short", &two_way_sample, exact - 1, 3, 10, 7, exact - 2, 0, FILL);
+    one_query(t, "query, two-way, no room for the label", &two_way_sample, 7, 3, 10, 2, 4, 0, FILL);
     same(t, "sheet_query, two-way", matcher_sheet_query((const uint8_t *)two_way_sheet, sizeof two_way_sheet - 1, to, lent.len), text);
     holds_bytes(t, "sheet_query, two-way, listing", &lent, two_way_listing, text, FILL & 0xff);
+}
+
+/* Region 2 between two others, with room for all and with less; and region 7, which is in no class: no rows, and no refusal. */
+static void fixed(struct tally *t)
+{
+    const size_t exact = COUNT(fixed_registers), text = sizeof fixed_listing - 1;
+    uint32_t other[COUNT(fixed_drawing)], place, work[COUNT(fixed_registers)], out[] = {FILL}, to[COUNT(fixed_list)];
+    size_t given = 1;
+    struct bytes lent;
+    uint8_t *bytes = lend_bytes(&lent, text + 1);
+    one_query(t, "query, fixed", &fixed_sample, exact, 3, 0, 0, exact, COUNT(fixed_rows), FILL);
+    one_query(t, "query, fixed, a word short", &fixed_sample, exact - 1, 3, 10, 12, exact - 2, 0, FILL);
+    one_query(t, "query, fixed, no room for kind 14", &fixed_sample, 17, 3, 10, 2, 16, 0, FILL);
+    memcpy(other, fixed_drawing, sizeof other);
+    other[7] = 7;
+    same(t, "query, outside the class", matcher_query(FEED, other, COUNT(other), to, COUNT(to), work, exact, out, 1, &place, &given), 0);
+    same(t, "query, outside the class, rows", given == 0 && out[0] == FILL, 1);
+    same(t, "sheet_query, fixed", matcher_sheet_query((const uint8_t *)fixed_sheet, sizeof fixed_sheet - 1, bytes, lent.len), text);
+    holds_bytes(t, "sheet_query, fixed, listing", &lent, fixed_listing, text, FILL & 0xff);
 }
 
 static void all_calls(struct tally *t)
@@ -329,6 +300,7 @@ static void all_calls(struct tally *t)
     sheets(t);
     paging(t);
     two_way(t);
+    fixed(t);
 }
 
 /* ---- a null pointer with length 0, for every slice of every call */
@@ -369,7 +341,7 @@ static void null_queries(struct tally *t)
     static const int no_feed[] = {0, 1, 1, 1, 1}, no_drawing[] = {1, 0, 1, 1, 1}, no_list[] = {1, 1, 0, 1, 1};
     static const int no_work[] = {1, 1, 1, 0, 1}, no_rows[] = {1, 1, 1, 1, 0}, none[] = {0, 0, 0, 0, 0};
     /* one class without objects, one node: no pair and no row, so nothing has to be lent for them */
-    static const uint32_t empty[] = {1, 0, 0}, node[] = {1, 0, 0, 1};
+    static const uint32_t empty[] = {1, 0, 0}, node[] = {1, 0, 0, 1, ANY};
     uint32_t load[3];
     struct answer a;
     null_query(t, "query, no feed", no_feed, 1, 0);

@@ -76,9 +76,10 @@ impl Cell {
 
     /// Asks all four, compares what they answer, and adds times for so many seconds.
     pub fn measure(&mut self, ready: &Ready, drawing: &Drawing, seconds: f64) {
+        let drawing = drawing.on(ready.frame);
         let (feed, words) = (&ready.frame.feed, drawing.words());
-        let mut search = ready.index.search(drawing);
-        let mut sqlite = ready.prepare(drawing);
+        let mut search = ready.index.search(&drawing);
+        let mut sqlite = ready.prepare(&drawing);
         let mut algebra = Algebra::new(feed, &words, AMPLE);
         let rows = search.ask().expect("a search refuses nothing").to_vec();
         let refused = algebra.ask().err();

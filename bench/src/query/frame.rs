@@ -29,6 +29,8 @@ pub struct Frame {
     pub both: bool,
     /// neighbours of a region, on average
     pub neighbours: f64,
+    /// the cap of the bottle that was placed first; 0 where there is none
+    pub known_cap: u32,
     pub feed: Vec<u32>,
 }
 
@@ -41,6 +43,8 @@ struct Layout {
     touching: Pairs,
     covers: Pairs,
     planted: Vec<bool>,
+    /// the cap of the first bottle
+    known_cap: Option<usize>,
 }
 
 impl Layout {
@@ -48,7 +52,7 @@ impl Layout {
         let mut classes = vec![BTreeSet::new(); CLASSES.len()];
         classes[REGION] = (0..regions as u32).collect();
         let width = (1..).find(|w| w * w >= regions).unwrap_or(1);
-        Layout { regions, width, classes, touching: Pairs::new(), covers: Pairs::new(), planted: vec![false; regions] }
+        Layout { regions, width, classes, touching: Pairs::new(), covers: Pairs::new(), planted: vec![false; regions], known_cap: None }
     }
 
     /// The region so many columns to the right and rows below, if there is one.
@@ -82,6 +86,7 @@ impl Layout {
         if let (true, Some(neck), Some(body)) = (done, neck, body) {
             self.covered(k, neck);
             self.touching.insert((neck as u32, body as u32));
+            self.known_cap.get_or_insert(k);
         }
         done
     }
@@ -156,6 +161,7 @@ impl Frame {
     fn of(layout: Layout, both: bool) -> Self {
         let above = layout.touching.iter().filter(|p| (p.1 - p.0) as usize == layout.width).copied().collect();
         let neighbours = 2.0 * layout.touching.len() as f64 / layout.regions as f64;
+        let known_cap = layout.known_cap.unwrap_or(0) as u32;
         let mut touch = layout.touching;
         if both {
             touch.extend(touch.clone().into_iter().map(|(u, v)| (v, u)));
@@ -164,7 +170,7 @@ impl Frame {
         let classes: Vec<Vec<u32>> = layout.classes.into_iter().map(|c| c.into_iter().collect()).collect();
         assert!(classes.iter().map(Vec::len).chain(labels.iter().map(Vec::len)).all(|n| n <= CEILING), "a table is over its ceiling");
         let feed = words(&classes, &labels, None);
-        Frame { regions: layout.regions, classes, labels, both, neighbours, feed }
+        Frame { regions: layout.regions, classes, labels, both, neighbours, known_cap, feed }
     }
 
     /// The feed of the same frame in which `touch` is two-way, and has each touching pair once, in chance order.

@@ -2,7 +2,7 @@
 
 use crate::clock::median;
 use crate::contest::{Cell, BACKTRACKING, PROVED, SQLITE, UNPROVED};
-use crate::drawings::Drawing;
+use crate::drawings::{Drawing, BOTTLE, CAP_FIXED};
 use crate::figures::{count, figure};
 use crate::frame::{CLASSES, LABELS};
 use crate::{sqlite, Results};
@@ -12,8 +12,8 @@ const MATCHERS: &str = "\
   that are needed.
 - *SQLite* VERSION in process and in memory: tables indexed both ways, one `SELECT DISTINCT … ORDER BY` for each drawing, prepared once. It is prepared in a database with
   statistics (`ANALYZE`) and in one without; the quicker one counts.
-- *backtracking*: a search in Rust. Next is the node with most edges to those before it, of these the one of the smallest class. Candidates come from the shortest list of
-  neighbours, which are kept by label in both directions. Once all picked nodes have their objects, one way to go on is enough. The rows are sorted, and equal ones dropped.
+- *backtracking*: a search in Rust. Next is the node with most edges to those before it, of these the one of the smallest class, or a fixed one. Candidates come from the shortest
+  list of neighbours, which are kept by label in both directions. Once all picked nodes have their objects, one way to go on is enough. The rows are sorted, and equal ones dropped.
 - *unproved algebra*: the same translation, run and rows by the same algorithms in plain Rust (`bench/src/query/algebra.rs` over `bench/src/peer.rs`).
 
 All four first gave the same rows, both algebras the same instructions and the same refusal; otherwise the bench fails. Then they take turns. A time is processor time, the median of the turns in three passes.
@@ -27,6 +27,12 @@ Regions stand on a grid, and each touches about three others: beside it, over or
 number to the higher. Its regions touch only about two others, and most drawings find fewer rows on it than on the frame of 1,300. `above` has the touching pairs that stand one over the other,
 `covers` about one in eight touching pairs and those of bottles (a cap covers a neck over a body) and trays (three rims cover a floor), which are placed at random. Every region is in
 the class `region`, some are in others. The same frames come out of every run.
+";
+
+const ONE_CAP: &str = "\
+The bottle is asked about every cap, and about one that is known, that of the first bottle of the frame: its node is then fixed to this object. **A ratio is the time of the bottle to the time
+of the bottle with its cap fixed, of the same matcher and in the same run: above 1 the fixed node saves time.** The proved query loads every table that the drawing names, as before, and checks
+the feed; what becomes smaller are the registers behind the selection of the cap. A search begins at the known cap.
 ";
 
 const STORED_ONCE: &str = "\
@@ -139,7 +145,7 @@ fn outcome(results: &Results, which: usize) -> String {
 fn beside_sqlite(results: &Results) -> String {
     let slower: Vec<_> = accepted(results).into_iter().filter(|(_, cell)| cell.ratio(SQLITE) < 1.0).collect();
     format!(
-        "**SQLite**: {}. It loses on {}. There SQLite goes from the few objects of a small class to their neighbours by its indexes, and is done after few look-ups. The program of \
+        "**SQLite**: {}. It loses on {}. There SQLite goes from the few objects of a small class, or from a known one, to their neighbours by its indexes, and is done after few look-ups. The program of \
         document 01 copies every table that the drawing names before it looks at any, and the feed is checked in each query; on small frames it is the fixed cost of a query that counts (below). \
         It gains most where a row has many embeddings, and where there are many rows.\n",
         outcome(results, SQLITE),
@@ -190,7 +196,28 @@ fn refusals(results: &Results) -> String {
     text
 }
 
-fn fixed(results: &Results) -> String {
+/// The bottle beside the bottle with its cap fixed, on each frame.
+fn one_cap(results: &Results) -> String {
+    let of = |name: &str| results.drawings.iter().position(|drawing| drawing.name == name).map(|i| &results.cells[i]);
+    let (Some(all), Some(one)) = (of(BOTTLE), of(CAP_FIXED)) else { return String::new() };
+    let mut text = String::from(
+        "| regions | rows | rows, cap fixed | pairs in registers | pairs, cap fixed | proved query, µs | proved query, cap fixed, µs | proved: bottle / cap fixed | \
+        SQLite: bottle / cap fixed | backtracking: bottle / cap fixed |\n|---:|---:|---:|---:|---:|---:|---:|---:|---:|---:|\n",
+    );
+    let mut ratios = Vec::new();
+    for (a, b) in all.iter().zip(one) {
+        let sizes = [a.regions, a.rows, b.rows, a.pairs, b.pairs].map(count);
+        let times = [a, b].map(|cell| micro(cell.time(PROVED)));
+        let saved = [PROVED, SQLITE, BACKTRACKING].map(|which| a.time(which) / b.time(which));
+        ratios.push(saved[0]);
+        text += &row(sizes.into_iter().chain(times).chain(saved.map(ratio)));
+    }
+    ratios.sort_by(f64::total_cmp);
+    let [least, most] = [0, ratios.len() - 1].map(|k| ratio(ratios[k]));
+    format!("{text}\nThe bottle takes the proved query {least} to {most} times as long as the bottle with its cap fixed.\n")
+}
+
+fn fixed_cost(results: &Results) -> String {
     let mut text = String::from("| drawing | proved query, µs | unproved algebra, µs |\n|---|---:|---:|\n");
     for (drawing, cell) in results.drawings.iter().zip(&results.bare) {
         text += &row([drawing.name.into(), micro(cell.time(PROVED)), micro(cell.time(UNPROVED))]);
@@ -251,7 +278,11 @@ pub fn page(results: &Results) -> String {
         "\n## Where it gains and where it loses\n\n",
         &[beside_sqlite(results), beside_search(results), beside_unproved(results)].join("\n"),
         "\nThe fixed cost, as time of a query where all tables are empty:\n\n",
-        &fixed(results),
+        &fixed_cost(results),
+        "\n## What a fixed node saves\n\n",
+        ONE_CAP,
+        "\n",
+        &one_cap(results),
         "\n## Frames\n\n",
         FRAMES,
         "\n",

@@ -107,11 +107,12 @@ impl Drop for Database {
 /// The drawing as a query: a table for each node and each edge.
 fn select(drawing: &Drawing) -> String {
     let picks: Vec<String> = drawing.picks().iter().map(|i| format!("n{i}.o")).collect();
-    let mut tables: Vec<String> = drawing.nodes.iter().enumerate().map(|(i, node)| format!("c{} AS n{i}", node.0)).collect();
+    let mut tables: Vec<String> = drawing.nodes.iter().enumerate().map(|(i, node)| format!("c{} AS n{i}", node.class)).collect();
     tables.extend(drawing.edges.iter().enumerate().map(|(i, edge)| format!("l{} AS e{i}", edge.0)));
     let ends = |(i, &(_, s, t)): (usize, &(usize, usize, usize))| format!("e{i}.s = n{s}.o AND e{i}.t = n{t}.o");
-    let ends: Vec<String> = drawing.edges.iter().enumerate().map(ends).collect();
-    let condition = if ends.is_empty() { String::new() } else { format!(" WHERE {}", ends.join(" AND ")) };
+    let mut conditions: Vec<String> = drawing.edges.iter().enumerate().map(ends).collect();
+    conditions.extend(drawing.nodes.iter().enumerate().filter_map(|(i, node)| Some(format!("n{i}.o = {}", node.fixed?))));
+    let condition = if conditions.is_empty() { String::new() } else { format!(" WHERE {}", conditions.join(" AND ")) };
     format!("SELECT DISTINCT {0} FROM {1}{condition} ORDER BY {0}", picks.join(", "), tables.join(", "))
 }
 

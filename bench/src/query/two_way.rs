@@ -50,7 +50,7 @@ impl Pair {
 
     /// Asks over both feeds, compares rows, instructions and every register, and adds times for so many seconds.
     pub fn measure(&mut self, feeds: &Feeds, drawing: &Drawing, seconds: f64) {
-        let (name, words) = (drawing.name, drawing.words());
+        let (name, words) = (drawing.name, drawing.on(feeds.frame).words());
         let mut unproved = [&feeds.frame.feed, &feeds.once].map(|feed| Algebra::new(feed, &words, AMPLE));
         let answers = unproved.each_mut().map(|algebra| algebra.ask().map(<[u32]>::to_vec));
         assert!(answers[0] == answers[1], "{name}: the two feeds give different rows");

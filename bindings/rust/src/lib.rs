@@ -1,9 +1,9 @@
 //! The region matcher: safe calls over the proved library.
 //!
 //! A *feed* is what the cameras saw: classes of regions, and labelled pairs of regions. A *drawing* is what is asked: nodes, edges, some nodes
-//! picked. [`query`] gives one row for each list of objects that the drawing finds at its picked nodes, ascending, each once. Feeds, drawings and
-//! instruction lists are slices of words, whose formats `docs/MANUAL.md` of the repository describes; [`sheet_query`] takes both as text instead, and
-//! [`sheet_pages`] sets the rows of such a text on pages to be printed.
+//! picked, some fixed to one object. [`query`] gives one row for each list of objects that the drawing finds at its picked nodes, ascending, each
+//! once. Feeds, drawings and instruction lists are slices of words, whose formats `docs/MANUAL.md` of the repository describes; [`sheet_query`] takes
+//! both as text instead, and [`sheet_pages`] sets the rows of such a text on pages to be printed.
 //!
 //! Every call takes any words: it answers, or gives a [`Refusal`]. No call keeps anything or shares anything with another, so threads may call at
 //! once. What a call takes of the stack stands in `include/matcher.h`; it is less than 1 MiB.
@@ -13,11 +13,14 @@ mod calls;
 use std::error::Error;
 use std::fmt;
 
-/// An instruction list of so many words has room for every translation: 864 instructions.
-pub const LIST_WORDS: usize = 2_592;
+/// An instruction list of so many words has room for every translation: 876 instructions.
+pub const LIST_WORDS: usize = 2_628;
 
 /// By how much the count word of a two-way label is raised, whose pairs count in either direction.
 pub const TWO_WAY: u32 = 32_768;
+
+/// The third word of a node that may be any object of its class; a lower word is the one object that the node must be.
+pub const ANY_OBJECT: u32 = 65_536;
 
 /// A listing of so many bytes has room for the answer to every sheet.
 pub const LISTING_BYTES: usize = 24_732;
@@ -45,7 +48,7 @@ impl Refusal {
             3 => "a value above 65,535, or a pair not above the one before it",
             4 => "a class pair with unequal sides",
             5 => "a drawing of the wrong length, or with too few or too many nodes or edges",
-            6 => "a class, label or node that does not exist, or a pick above 1",
+            6 => "a class, label or node that does not exist, a pick above 1, or a fixed object above 65,536",
             7 => "no picked node",
             8 => "no instruction, over 1,024, or words not a multiple of 3",
             9 => "unknown kind",
@@ -101,7 +104,8 @@ pub fn check_feed(feed: &[u32]) -> Result<(), Refusal> {
     answer(number, place)
 }
 
-/// Checks a feed, then a drawing: refusals 1 to 7.
+/// Checks a feed, then a drawing: refusals 1 to 7. A drawing is the numbers n of nodes and e of edges; then three words a node: its class, 1 where it
+/// is picked and 0 where not, and the one object that it must be, or [`ANY_OBJECT`]; then three words an edge: its label, its source and its target.
 pub fn check_drawing(feed: &[u32], drawing: &[u32]) -> Result<(), Refusal> {
     let mut place = 0;
     // SAFETY: slices with their lengths, which are only read, and a place of our own

@@ -4,6 +4,7 @@ use crate::Drawing;
 use crate::Edge;
 use crate::Node;
 use crate::words::EDGE_WORDS;
+use crate::words::FIXED;
 use crate::words::HEAD_WORDS;
 use crate::words::NODE_WORDS;
 use crate::words::PICK;
@@ -14,6 +15,7 @@ use crate::words::right_length;
 use answers::Answer;
 use feed::class_count;
 use feed::label_count;
+use limits::ANY_OBJECT;
 ghost use mathlib.Core.Path.{_≡_};
 ghost use Prim.Native.Nat.{_+_, _*_, _≤_, _<_};
 ghost use lib.ListN.{length};
@@ -34,6 +36,9 @@ fn check_node(v: Node, at: usize, classes: u32) -> Answer
     }
     if v.pick > 1 {
         return Answer::Missing((at + PICK) as u32);
+    }
+    if v.fixed > ANY_OBJECT {
+        return Answer::Missing((at + FIXED) as u32);
     }
     Answer::Accepted
 }

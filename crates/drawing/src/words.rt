@@ -20,10 +20,12 @@ ghost use Rattle.drawing.specs.inner.Parts.{addNodes, addEdges, Sized, R
 // The counts: nodes, edges.
 pub const HEAD_WORDS: usize = 2;
 
-// A node: class, pick.
-pub const NODE_WORDS: usize = 2;
+// A node: class, pick, fixed.
+pub const NODE_WORDS: usize = 3;
 
 pub const PICK: usize = 1;
+
+pub const FIXED: usize = 2;
 
 // The node whose words start at `at`.
 fn read_node(words: &[u32], at: usize) -> Node
@@ -33,6 +35,7 @@ fn read_node(words: &[u32], at: usize) -> Node
     Node {
         class: words[at],
         pick: words[at + PICK],
+        fixed: words[at + FIXED],
     }
 }
 
@@ -41,7 +44,7 @@ fn write_node(words: &mut [u32], at: usize, v: Node) -> usize
     requires { ⌜ at + nodeWidth ≤ length (now words) ⌝ }
     ensures { λ r. ⌜ Put (now (words .entry)) (now (words .exit)) at (nodeWords v) r ⌝ }
 {
-    put_two(words, at, v.class, v.pick)
+    put_three(words, at, v.class, v.pick, v.fixed)
 }
 
 // An edge: label, source, target.
@@ -103,7 +106,7 @@ fn read_nodes(words: &[u32], n: usize, e: usize) -> Drawing
     let mut i = 0;
     while i < n {
         let v = read_node(words, HEAD_WORDS + NODE_WORDS * i);
-        let built = drawing.with_node(v.class, v.pick);
+        let built = drawing.with_node(v.class, v.pick, v.fixed);
         drawing = built.drawing;
         i += 1;
     }

@@ -1,4 +1,4 @@
--- Limits: every ceiling of document 01, the mark of a two-way label and the measures of a page, once for the definitions.
+-- Limits: every ceiling of document 01, the mark of a two-way label, the word for any object and the measures of a page, once for the definitions.
 --
 -- In order: of a feed; of a drawing; of an instruction list and its registers; of a sheet; of a page; all of them. Assumes nothing.
 use Prim.Native.Nat.{ℕ}
@@ -33,6 +33,10 @@ mostEdges = 24
 
 abbrev pub mostPicks : ℕ
 mostPicks = 12
+
+-- "65,536 for any object, or the one object it must be" (document 02, E4)
+abbrev pub anyObject : ℕ
+anyObject = 65536
 
 -- "8: none, over 1,024"; three words an instruction, and one end more than there are registers
 abbrev pub mostInstructions : ℕ
@@ -93,6 +97,7 @@ allLimits = record {
   nodes = mostNodes;
   edges = mostEdges;
   picks = mostPicks;
+  any = anyObject;
   instructions = mostInstructions;
   words = mostListWords;
   ends = mostEnds;

@@ -1,4 +1,4 @@
-// Limits: every ceiling of document 01, the mark of a two-way label and the measures of a page, once for the code. `specs/Limits.antt` has them once for the definitions; `all_limits` shows that the two agree.
+// Limits: every ceiling of document 01, the mark of a two-way label, the word for any object and the measures of a page, once for the code. `specs/Limits.antt` has them once for the definitions; `all_limits` shows that the two agree.
 
 ghost use mathlib.Core.Path.{_≡_};
 ghost use Rattle.limits.specs.Limits.{allLimits};
@@ -24,6 +24,9 @@ pub const NODES: usize = 12;
 pub const EDGES: usize = 24;
 
 pub const PICKS: usize = 12;
+
+// The third word of a node that may be any object.
+pub const ANY_OBJECT: u32 = 65536;
 
 // The most instructions of a list, the words that they take, and the places where their registers start and end.
 pub const INSTRUCTIONS: usize = 1024;
@@ -69,6 +72,7 @@ pub struct Limits {
     pub nodes: usize,
     pub edges: usize,
     pub picks: usize,
+    pub any: u32,
     pub instructions: usize,
     pub words: usize,
     pub ends: usize,
@@ -99,6 +103,7 @@ pub fn all_limits() -> Limits
         nodes: NODES,
         edges: EDGES,
         picks: PICKS,
+        any: ANY_OBJECT,
         instructions: INSTRUCTIONS,
         words: LIST_WORDS,
         ends: ENDS,

@@ -8,6 +8,7 @@ use drawing::check::check_drawing;
 use drawing::words::EDGE_WORDS;
 use drawing::words::HEAD_WORDS;
 use drawing::words::NODE_WORDS;
+use limits::ANY_OBJECT;
 use limits::EDGES;
 use limits::LIST_WORDS;
 use limits::NODES;
@@ -92,11 +93,11 @@ fn show_rows(name: &[u8], feed: &[u32], d: Drawing, rows: &mut [u32]) {
     show(name, number, place, part);
 }
 
-// Three nodes of class 0 in a row, the two outer ones picked, as in document 01's sheet.
-fn row_of_three() -> Drawing {
-    let a = Drawing::empty().with_node(0, 1).drawing;
-    let m = a.with_node(0, 0).drawing;
-    let b = m.with_node(0, 1).drawing;
+// Three nodes of class 0 in a row, the two outer ones picked, as in document 01's sheet; the one between them is this object.
+fn row_of_three(middle: u32) -> Drawing {
+    let a = Drawing::empty().with_node(0, 1, ANY_OBJECT).drawing;
+    let m = a.with_node(0, 0, middle).drawing;
+    let b = m.with_node(0, 1, ANY_OBJECT).drawing;
     let first = b.with_edge(0, 0, 1).drawing;
     first.with_edge(0, 1, 2).drawing
 }
@@ -104,7 +105,7 @@ fn row_of_three() -> Drawing {
 // Document 01's sheet: its words, its rows, and no part of a slice that is too short.
 fn sheet() {
     let feed = [1u32, 1, 4, 3, 1, 1, 2, 2, 3, 3, 4, 4, 1, 2, 2, 3, 3, 4];
-    let d = row_of_three();
+    let d = row_of_three(ANY_OBJECT);
     show_check(b"sheet", &feed, d);
     let mut nine = [7u32; 9];
     show_rows(b"its rows", &feed, d, &mut nine);
@@ -119,7 +120,7 @@ fn sheet() {
 // The same drawing over a two-way label, whose pairs (2,1), (2,3) and (4,3) are met in either direction; and with a mark on the class.
 fn two_way() {
     let feed = [1u32, 1, 4, 32771, 1, 1, 2, 2, 3, 3, 4, 4, 2, 1, 2, 3, 4, 3];
-    let d = row_of_three();
+    let d = row_of_three(ANY_OBJECT);
     show_check(b"two-way", &feed, d);
     let mut enough = [7u32; 17];
     show_rows(b"its rows", &feed, d, &mut enough);
@@ -130,11 +131,26 @@ fn two_way() {
     show_rows(b"a marked class", &marked, d, &mut enough);
 }
 
+// The same drawing with its middle fixed: to an object that has rows, to one that is not in the class, and past the word for any object.
+fn fixed() {
+    let feed = [1u32, 1, 4, 3, 1, 1, 2, 2, 3, 3, 4, 4, 1, 2, 2, 3, 3, 4];
+    let mut rows = [7u32; 3];
+    show_check(b"fixed to 2", &feed, row_of_three(2));
+    show_rows(b"its rows", &feed, row_of_three(2), &mut rows);
+    show(b"the slice", 0, 0, &rows);
+    let mut none = [7u32; 3];
+    show_check(b"fixed to 65535", &feed, row_of_three(65535));
+    show_rows(b"its rows", &feed, row_of_three(65535), &mut none);
+    show(b"the slice", 0, 0, &none);
+    show_check(b"fixed to 65537", &feed, row_of_three(65537));
+    show_rows(b"its rows", &feed, row_of_three(65537), &mut none);
+}
+
 // Three nodes more.
 fn nodes(d: Drawing) -> Drawing {
-    let first = d.with_node(0, 1).drawing;
-    let second = first.with_node(0, 1).drawing;
-    second.with_node(0, 1).drawing
+    let first = d.with_node(0, 1, ANY_OBJECT).drawing;
+    let second = first.with_node(0, 1, ANY_OBJECT).drawing;
+    second.with_node(0, 1, ANY_OBJECT).drawing
 }
 
 // Four edges more.
@@ -148,7 +164,7 @@ fn edges(d: Drawing) -> Drawing {
 // Twelve nodes and one more, 24 edges and one more.
 fn full() {
     let n = nodes(nodes(nodes(nodes(Drawing::empty()))));
-    show_line(b"12 nodes and one more", n.with_node(0, 1));
+    show_line(b"12 nodes and one more", n.with_node(0, 1, ANY_OBJECT));
     let e = edges(edges(edges(edges(edges(edges(n))))));
     show_line(b"24 edges and one more", e.with_edge(0, 0, 1));
 }
@@ -156,7 +172,7 @@ fn full() {
 // A line takes any words: 6 and 7 wait for the drawing's check.
 fn waiting() {
     let feed = [1u32, 1, 1, 0, 5, 5];
-    let missing = Drawing::empty().with_node(3, 1);
+    let missing = Drawing::empty().with_node(3, 1, ANY_OBJECT);
     show_line(b"a class that does not exist", missing);
     show_check(b"its check", &feed, missing.drawing);
     let edge = Drawing::empty().with_edge(0, 0, 1);
@@ -165,9 +181,9 @@ fn waiting() {
     show_check(
         b"its nodes added",
         &feed,
-        edge.drawing.with_node(0, 1).drawing,
+        edge.drawing.with_node(0, 1, ANY_OBJECT).drawing,
     );
-    let unpicked = Drawing::empty().with_node(0, 0);
+    let unpicked = Drawing::empty().with_node(0, 0, ANY_OBJECT);
     show_line(b"no node picked", unpicked);
     show_check(b"its check", &feed, unpicked.drawing);
     let mut rows = [7u32; 2];
@@ -177,6 +193,7 @@ fn waiting() {
 fn main() {
     sheet();
     two_way();
+    fixed();
     full();
     waiting();
 }

@@ -21,7 +21,7 @@ use Rattle.tables.proofs.Tests.{decide, leb-is}
 use Rattle.feed.specs.Feed.{checkFeed}
 use Rattle.feed.proofs.Feed.{class-sides, class-sound}
 use Rattle.drawing.specs.declared.Node.{Node}
-use Rattle.drawing.specs.Drawing.{Pattern, node, isPicked, drawingWords}
+use Rattle.drawing.specs.Drawing.{Pattern, noNode, isPicked, drawingWords}
 use Rattle.drawing.specs.Embeddings.{picked, rows}
 use Rattle.drawing.proofs.Checks.{drawing-feed}
 use Rattle.drawing.proofs.Embeddings.{in-rows}
@@ -147,7 +147,7 @@ module _ (feed : List ℕ) (p : Pattern) (ok : checkFeed feed ≡ accepted) wher
           let i = in-at (picked-among (p .nodes) (t .0) (rw (t .2) at n)) in
           let l : i .0 < length (p .nodes) = omega (arith, at-less (i .1), t .1 .size) in
           let c = rw (at-getD (i .1) 0) at (t .1 .classes (i .0) l) in
-          class-sound feed ok (getD (p .nodes) (i .0) (node 0 0) .class) .small c .0
+          class-sound feed ok (getD (p .nodes) (i .0) noNode .class) .small c .0
 
 -- ---- the listing of a sheet
 

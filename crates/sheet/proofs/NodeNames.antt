@@ -73,8 +73,9 @@ module _ {r : Reading} (g : Few r) where
   node-few [] = breaks
   node-few (n ∷ []) = breaks
   node-few (n ∷ c ∷ []) = breaks
-  node-few (n ∷ c ∷ k ∷ []) = allowed _ _ (λ t. let a = simp (both-true, ltb-is) at t in few-node n _ (a .0 .0 .0 .0) (a .1))
-  node-few (n ∷ c ∷ k ∷ x ∷ xs) = breaks
+  node-few (n ∷ c ∷ k ∷ []) = breaks
+  node-few (n ∷ c ∷ k ∷ f ∷ []) = allowed _ _ (λ t. let a = simp (both-true, ltb-is) at t in few-node n _ (a .0 .0 .0 .0 .0) (a .1))
+  node-few (n ∷ c ∷ k ∷ f ∷ x ∷ xs) = breaks
 
   edge-few : (fs : List (List ℕ)) → Line (readEdge r fs)
   unfolding readEdge withEdge

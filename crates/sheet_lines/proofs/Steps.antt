@@ -2,7 +2,7 @@
 --
 -- In order: bounds; a class line; a label line; a node line; an edge line; the lines that touch no values; any line. Assumes nothing.
 use mathlib.Core.Path.{_≡_, refl, _∙_, sym, ap}
-use mathlib.Core.Bool.{Bool, true, false, _&&_, not}
+use mathlib.Core.Bool.{Bool, true, false, _&&_}
 use mathlib.Core.List.{List, []}
 use mathlib.Core.Option.{Option}
 use Prim.Native.Nat.{ℕ, _+_, _-_, _<_, _≤_}
@@ -25,7 +25,7 @@ use Rattle.drawing.specs.Builder.{view, withNode, withEdge}
 use Rattle.drawing.proofs.Builder.{Roomy, roomy, shown-nodes, shown-edges, full-nodes, full-edges, moreNodes, moreEdges, node-accepted, node-added, view-node, edge-accepted, edge-added, view-edge}
 use Rattle.sheet_text.specs.declared.Span.{Span}
 use Rattle.sheet_text.specs.declared.Fields.{Fields}
-use Rattle.sheet_text.specs.Text.{fields, isName, isNumber, valueOf, same, find, known}
+use Rattle.sheet_text.specs.Text.{fields, isName, isNumber, valueOf, same, find, known, numberOrAny}
 use Rattle.sheet_text.specs.inner.Parts.{textAt, Inside, Fielded, namesOf, withName}
 use Rattle.sheet_text.proofs.Words.{name-length, number}
 use Rattle.sheet_text.proofs.Spans.{names-longer, spans-longer}
@@ -33,7 +33,7 @@ use Rattle.sheet_lines.specs.declared.Tables.{Tables}
 use Rattle.sheet_lines.specs.declared.State.{State}
 use Rattle.sheet_lines.specs.declared.Step.{Step}
 use Rattle.sheet_lines.specs.Reading.{Reading, allow, turnTo, withClasses, withLabels, withNode as addNode, withEdge as addEdge, readClass, readLabel, readNode, readEdge, endSection, headers, readHeader}
-use Rattle.sheet_lines.specs.inner.State.{tablesRead, viewOf, isClassLine, isLabelLine, Fine, Ready, stepBy, withDrawing, nodeStep, edgeStep, turned, endStep, Lined, ClassRead, LabelRead, OtherRead, LineRead}
+use Rattle.sheet_lines.specs.inner.State.{tablesRead, viewOf, isClassLine, isLabelLine, isNodeLine, Fine, Ready, stepBy, withDrawing, nodeStep, edgeStep, turned, endStep, Lined, ClassRead, LabelRead, OtherRead, LineRead}
 use Rattle.sheet_lines.proofs.Tests.{class-tested, label-tested, node-tested, edge-tested, class-passed, label-passed, header-tested}
 use Rattle.sheet_lines.proofs.State.{the-type}
 
@@ -184,15 +184,14 @@ module _ {s : List ℕ} {line : Span} {x : State} (g : Ready s line x) (r : Room
 
   -- fields that are right: the drawing decides whether there is room
   module _ {f : Fields} (w : Fielded s line f) where
-    pub node-read : {r′ : Step} → (eqb (f .count) 3 && isName (textAt s (f .first)) && not (known (textAt s (f .first)) (namesOf s (x .nodes)))
-        && known (textAt s (f .second)) (namesOf s (x .classes .names)) && isNumber (textAt s (f .third))) ≡ true →
-        r′ ≡ nodeStep x (f .first) (withNode (x .drawing) (node (find (textAt s (f .second)) (namesOf s (x .classes .names))) (valueOf (textAt s (f .third))))) →
+    pub node-read : {r′ : Step} → isNodeLine s f (namesOf s (x .classes .names)) (namesOf s (x .nodes)) ≡ true →
+        r′ ≡ nodeStep x (f .first) (withNode (x .drawing) (node (find (textAt s (f .second)) (namesOf s (x .classes .names))) (valueOf (textAt s (f .third))) (numberOrAny (textAt s (f .fourth))))) →
         OtherRead s line x r′ (λ v. readNode v (fields (textAt s line)))
     unfolding nodeStep stepBy allow viewOf tablesRead
     node-read test made = rw (made, node-accepted) (by (ltb (x .drawing .n) mostNodes) refl)
       where
         v : Node
-        v = node (find (textAt s (f .second)) (namesOf s (x .classes .names))) (valueOf (textAt s (f .third)))
+        v = node (find (textAt s (f .second)) (namesOf s (x .classes .names))) (valueOf (textAt s (f .third))) (numberOrAny (textAt s (f .fourth)))
 
         by : (b : Bool) → ltb (x .drawing .n) mostNodes ≡ b →
             OtherRead s line x (stepBy b (withDrawing (withName (x .nodes) (f .first)) (withNode (x .drawing) v .drawing) x) x) (λ v. readNode v (fields (textAt s line)))

@@ -2,7 +2,7 @@
 --
 -- In order: the four kinds of lines; what follows where the test is passed; any line. Assumes nothing.
 use mathlib.Core.Path.{_≡_, refl}
-use mathlib.Core.Bool.{Bool, true, false, _&&_, not}
+use mathlib.Core.Bool.{Bool, true, false, _&&_}
 use mathlib.Core.List.{List, [], _∷_}
 use mathlib.Core.Option.{none}
 use Prim.Native.Nat.{ℕ, _<_, _≤_}
@@ -17,12 +17,12 @@ use Rattle.tables.proofs.Parts.{slice-none, slice-next}
 use Rattle.drawing.specs.Drawing.{node, edge}
 use Rattle.sheet_text.specs.declared.Span.{Span}
 use Rattle.sheet_text.specs.declared.Fields.{Fields}
-use Rattle.sheet_text.specs.Text.{fields, isName, isNumber, valueOf, same, find, known}
+use Rattle.sheet_text.specs.Text.{fields, isName, isNumber, valueOf, same, find, known, isNumberOrDash, numberOrAny}
 use Rattle.sheet_text.specs.inner.Parts.{textAt, Two, Three, Fielded}
 use Rattle.sheet_text.proofs.Parts.{wrong-count}
 use Rattle.sheet_lines.specs.Reading.{Reading, allow, turnTo, withClasses, withLabels, withNode, withEdge, withLine, fitsTable}
 use Rattle.sheet_lines.specs.Reading.{readClass, readLabel, readNode, readEdge, readValues, endSection, readOpened, headers, readHeader, byStage, readLine}
-use Rattle.sheet_lines.specs.inner.State.{isClassLine, isLabelLine}
+use Rattle.sheet_lines.specs.inner.State.{isClassLine, isLabelLine, isNodeLine}
 
 -- ---- another number of fields
 
@@ -42,13 +42,14 @@ module _ (v : Reading) where
   label-fields (l ∷ x ∷ y ∷ []) d = absurd (d refl)
   label-fields (l ∷ x ∷ y ∷ z ∷ zs) d = refl
 
-  node-fields : (fs : List (List ℕ)) → (length fs ≡ 3 → ⊥) → none ≡ readNode v fs
+  node-fields : (fs : List (List ℕ)) → (length fs ≡ 4 → ⊥) → none ≡ readNode v fs
   unfolding readNode
   node-fields [] d = refl
   node-fields (n ∷ []) d = refl
   node-fields (n ∷ c ∷ []) d = refl
-  node-fields (n ∷ c ∷ k ∷ []) d = absurd (d refl)
-  node-fields (n ∷ c ∷ k ∷ x ∷ xs) d = refl
+  node-fields (n ∷ c ∷ k ∷ []) d = refl
+  node-fields (n ∷ c ∷ k ∷ f ∷ []) d = absurd (d refl)
+  node-fields (n ∷ c ∷ k ∷ f ∷ x ∷ xs) d = refl
 
   edge-fields : (fs : List (List ℕ)) → (length fs ≡ 3 → ⊥) → none ≡ readEdge v fs
   unfolding readEdge
@@ -61,7 +62,7 @@ module _ (v : Reading) where
 -- ---- the four kinds of lines
 
 module _ {s : List ℕ} {line : Span} {f : Fields} (g : Fielded s line f) where
-  other-count : (n : ℕ) → n < 4 → eqb (f .count) n ≡ false → length (fields (textAt s line)) ≡ n → ⊥
+  other-count : (n : ℕ) → n < 5 → eqb (f .count) n ≡ false → length (fields (textAt s line)) ≡ n → ⊥
   other-count n h e = wrong-count g n h (λ z. true-not-false (eq-eqb (f .count) n z) e)
 
   abbrev first : List ℕ
@@ -72,6 +73,9 @@ module _ {s : List ℕ} {line : Span} {f : Fields} (g : Fielded s line f) where
 
   abbrev third : List ℕ
   third = textAt s (f .third)
+
+  abbrev fourth : List ℕ
+  fourth = textAt s (f .fourth)
 
   module _ (v : Reading) (b : Bool) where
     pub class-tested : isClassLine s f (v .classes .names) ≡ b →
@@ -88,12 +92,13 @@ module _ {s : List ℕ} {line : Span} {f : Fields} (g : Fielded s line f) where
         (λ e. let u = rw e at t in rw (g .three (eqb-true (f .count) 3 e) .shown, u))
         (λ e. let u = rw e at t in rw (← u) (label-fields v (fields (textAt s line)) (other-count 3 (omega arith) e)))
 
-    pub node-tested : (eqb (f .count) 3 && isName first && not (known first (v .names)) && known second (v .classes .names) && isNumber third) ≡ b →
-        allow (b && ltb (length (v .drawing .nodes)) mostNodes) (withNode first (node (find second (v .classes .names)) (valueOf third)) v) ≡ readNode v (fields (textAt s line))
+    pub node-tested : isNodeLine s f (v .classes .names) (v .names) ≡ b →
+        allow (b && ltb (length (v .drawing .nodes)) mostNodes) (withNode first (node (find second (v .classes .names)) (valueOf third) (numberOrAny fourth)) v)
+        ≡ readNode v (fields (textAt s line))
     unfolding readNode allow
-    node-tested t = decide (eqb (f .count) 3)
-        (λ e. let u = rw e at t in rw (g .three (eqb-true (f .count) 3 e) .shown, u))
-        (λ e. let u = rw e at t in rw (← u) (node-fields v (fields (textAt s line)) (other-count 3 (omega arith) e)))
+    node-tested t = decide (eqb (f .count) 4)
+        (λ e. let u = rw e at t in rw (g .four (eqb-true (f .count) 4 e), u))
+        (λ e. let u = rw e at t in rw (← u) (node-fields v (fields (textAt s line)) (other-count 4 (omega arith) e)))
 
     pub edge-tested : (eqb (f .count) 3 && known first (v .labels .names) && known second (v .names) && known third (v .names)) ≡ b →
         allow (b && ltb (length (v .drawing .edges)) mostEdges) (withEdge (edge (find first (v .labels .names)) (find second (v .names)) (find third (v .names))) v) ≡ readEdge v (fields (textAt s line))
@@ -112,8 +117,8 @@ module _ {s : List ℕ} {line : Span} {f : Fields} (g : Fielded s line f) where
       Three s line f × (fitsTable mostLabels first names ≡ true) × (isNumber second ≡ true) × (isNumber third ≡ true)
   label-passed names t = let p = simp both-true at t in (g .three (eqb-true (f .count) 3 (p .0 .0 .0 .0 .0)), p .0 .0 .1, p .0 .1, p .1)
 
-  pub node-passed : (nodes classes : List (List ℕ)) → (eqb (f .count) 3 && isName first && not (known first nodes) && known second classes && isNumber third) ≡ true → isNumber third ≡ true
-  node-passed nodes classes t = (simp both-true at t) .1
+  pub node-passed : (classes nodes : List (List ℕ)) → isNodeLine s f classes nodes ≡ true → (isNumber third ≡ true) × (isNumberOrDash fourth ≡ true)
+  node-passed classes nodes t = let p = simp both-true at t in (p .0 .1, p .1)
 
 -- ---- any line
 

@@ -1,4 +1,5 @@
--- Reading: what has been read of a sheet, and what one line adds to it (document 01, 'The sheet'; document 02, E1, for the star of a label).
+-- Reading: what has been read of a sheet, and what one line adds to it (document 01, 'The sheet'; document 02, E1, for the star of a label,
+-- E4, for the fixed object of a node).
 --
 -- In order: what has been read; the four kinds of lines; any line. Assumes nothing.
 use Prim.Native.Nat.{ℕ, _+_}
@@ -13,7 +14,7 @@ use Rattle.tables.specs.declared.Pair.{Pair}
 use Rattle.drawing.specs.declared.Node.{Node}
 use Rattle.drawing.specs.declared.Edge.{Edge}
 use Rattle.drawing.specs.Drawing.{Pattern, node, edge}
-use Rattle.sheet_text.specs.Text.{bytes, fields, isName, isNumber, valueOf, same, find, known, isLabelName, clashes}
+use Rattle.sheet_text.specs.Text.{bytes, fields, isName, isNumber, valueOf, same, find, known, isNumberOrDash, numberOrAny, isLabelName, clashes}
 
 -- ---- what has been read
 
@@ -94,15 +95,16 @@ readLabel r (l ∷ u ∷ v ∷ []) =
     (withLabels (withLine l (pair (valueOf u) (valueOf v)) (r .labels)) r)
 readLabel r (l ∷ u ∷ v ∷ x ∷ xs) = none
 
--- `node class pick`: "an unknown or doubled node name, an unknown class ..., or a line past ... 12 nodes"
+-- `node class pick fixed`: "an unknown or doubled node name, an unknown class ..., or a line past ... 12 nodes"
 unfoldable pub readNode : Reading → List (List ℕ) → Option Reading
 readNode r [] = none
 readNode r (n ∷ []) = none
 readNode r (n ∷ c ∷ []) = none
-readNode r (n ∷ c ∷ k ∷ []) =
-    allow (isName n && not (known n (r .names)) && known c (r .classes .names) && isNumber k && ltb (length (r .drawing .nodes)) mostNodes)
-    (withNode n (node (find c (r .classes .names)) (valueOf k)) r)
-readNode r (n ∷ c ∷ k ∷ x ∷ xs) = none
+readNode r (n ∷ c ∷ k ∷ []) = none
+readNode r (n ∷ c ∷ k ∷ f ∷ []) =
+    allow (isName n && not (known n (r .names)) && known c (r .classes .names) && isNumber k && isNumberOrDash f && ltb (length (r .drawing .nodes)) mostNodes)
+    (withNode n (node (find c (r .classes .names)) (valueOf k) (numberOrAny f)) r)
+readNode r (n ∷ c ∷ k ∷ f ∷ x ∷ xs) = none
 
 -- `edge source target`: "... and in each edge that uses it": a label is known with its star, or without, as on its lines
 unfoldable pub readEdge : Reading → List (List ℕ) → Option Reading
@@ -130,7 +132,7 @@ readOpened r (b ∷ bs) = readValues r (fields (b ∷ bs))
 
 -- "Each section is a line of names, then lines of values"; "The four name lines are those shown below"
 unfoldable pub headers : List (List ℕ)
-headers = bytes "class object" ∷ bytes "label from to" ∷ bytes "node class pick" ∷ bytes "edge source target" ∷ []
+headers = bytes "class object" ∷ bytes "label from to" ∷ bytes "node class pick fixed" ∷ bytes "edge source target" ∷ []
 
 unfoldable pub readHeader : Reading → List ℕ → Option Reading
 readHeader r line = allow (same line (getD headers (r .section) [])) (turnTo (r .section) true r)

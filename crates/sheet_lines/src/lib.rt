@@ -14,11 +14,13 @@ use sheet_text::find_name;
 use sheet_text::is_label_name;
 use sheet_text::is_name;
 use sheet_text::is_number;
+use sheet_text::is_number_or_dash;
+use sheet_text::number_or_any;
 use sheet_text::same_text;
 use sheet_text::value_of;
 use sheet_text::with_name;
 ghost use mathlib.Core.Path.{_≡_};
-ghost use mathlib.Core.Bool.{not, _&&_};
+ghost use mathlib.Core.Bool.{_&&_};
 ghost use mathlib.Core.List.{[]};
 ghost use Prim.Native.Nat.{_+_, _*_, _≤_, _<_};
 ghost use lib.Dec.{eqb};
@@ -27,10 +29,10 @@ ghost use Rattle.limits.specs.Limits.{mostClasses, mostLabels};
 ghost use Rattle.tables.specs.Order.{pair};
 ghost use Rattle.drawing.specs.Drawing.{node, edge};
 ghost use Rattle.drawing.specs.Builder.{withNode, withEdge};
-ghost use Rattle.sheet_text.specs.Text.{fields, isName, isNumber, same, known};
+ghost use Rattle.sheet_text.specs.Text.{fields, same, known};
 ghost use Rattle.sheet_text.specs.inner.Parts.{textAt, namesOf, Sought};
 ghost use Rattle.sheet_lines.specs.Reading.{fitsTable, readClass, readLabel, readNode, readEdge, readValues, headers, readHeader, readLine};
-ghost use Rattle.sheet_lines.specs.inner.State.{putLine, isClassLine, isLabelLine, Asked, Fitting, Searchable, Ready, Numbered, Lined, nodeStep, edgeStep, endStep, LineRead, ClassRead, LabelRead, OtherRead, Linable, Tabled, Headed, ReadyIn, ReadyFor};
+ghost use Rattle.sheet_lines.specs.inner.State.{putLine, isClassLine, isLabelLine, isNodeLine, Asked, Fitting, Searchable, Ready, Numbered, Lined, nodeStep, edgeStep, endStep, LineRead, ClassRead, LabelRead, OtherRead, Linable, Tabled, Headed, ReadyIn, ReadyFor};
 
 // The words that a slice must have which holds the lines of the classes, or of the labels: three a line, and a line has at least four bytes.
 pub const LINE_WORDS: usize = 3 * (SHEET_BYTES / 4);
@@ -121,7 +123,7 @@ fn with_line(
     }
 }
 
-// ---- the four kinds of lines: a class and an object; a label and two objects; a node, its class, its pick; an edge and its two ends
+// ---- the four kinds of lines: a class and an object; a label and two objects; a node, its class, its pick, the object that it is fixed to; an edge and its two ends
 
 // Whether fields make a class line.
 fn is_class(s: &[u8], f: Fields, classes: Names) -> bool
@@ -195,24 +197,24 @@ fn label_line(rows: &mut [u32], s: &[u8], line: Span, x: State) -> Step
 // Whether fields make a node line, but for the room in the drawing.
 fn is_node(s: &[u8], f: Fields, classes: Names, nodes: Names) -> bool
     requires { ⌜ Searchable (now s) f classes nodes ⌝ }
-    ensures { λ r. ⌜ r ≡ (eqb (f .count) 3 && isName (textAt (now (s .entry)) (f .first)) && not (known (textAt (now (s .entry)) (f .first)) (namesOf (now (s .entry)) nodes))
-        && known (textAt (now (s .entry)) (f .second)) (namesOf (now (s .entry)) classes) && isNumber (textAt (now (s .entry)) (f .third))) ⌝ }
+    ensures { λ r. ⌜ r ≡ isNodeLine (now (s .entry)) f (namesOf (now (s .entry)) classes) (namesOf (now (s .entry)) nodes) ⌝ }
 {
-    (f.count == 3)
+    (f.count == 4)
         & is_name(s, f.first)
         & !knows(s, f.first, nodes)
         & knows(s, f.second, classes)
         & is_number(s, f.third)
+        & is_number_or_dash(s, f.fourth)
 }
 
 // The state with one node more, where the drawing has room for it.
-fn with_node(x: State, name: Span, class: u32, pick: u32) -> Step
+fn with_node(x: State, name: Span, class: u32, pick: u32, fixed: u32) -> Step
     requires { ⌜ x .nodes .n < mostLabels ⌝ }
-    ensures { λ r. ⌜ r ≡ nodeStep x name (withNode (x .drawing) (node class pick)) ⌝ }
+    ensures { λ r. ⌜ r ≡ nodeStep x name (withNode (x .drawing) (node class pick fixed)) ⌝ }
 {
     let drawing = x.drawing;
     let nodes = x.nodes;
-    let built = drawing.with_node(class, pick);
+    let built = drawing.with_node(class, pick, fixed);
     let answer = built.answer;
     if accepts(answer) {
         let more = built.drawing;
@@ -240,7 +242,8 @@ fn node_line(s: &[u8], line: Span, x: State) -> Step
     if is_node(s, f, classes.names, x.nodes) {
         let class = find_name(s, f.second, classes.names) as u32;
         let pick = value_of(s, f.third);
-        return with_node(x, f.first, class, pick);
+        let fixed = number_or_any(s, f.fourth);
+        return with_node(x, f.first, class, pick, fixed);
     }
     Step {
         read: false,
@@ -316,7 +319,12 @@ fn is_header(s: &[u8], line: Span, section: usize) -> bool
         return same_text(s, line, b"label from to", Span { start: 0, end: 13 });
     }
     if section == 2 {
-        return same_text(s, line, b"node class pick", Span { start: 0, end: 15 });
+        return same_text(
+            s,
+            line,
+            b"node class pick fixed",
+            Span { start: 0, end: 21 },
+        );
     }
     same_text(s, line, b"edge source target", Span { start: 0, end: 18 })
 }

@@ -22,26 +22,33 @@ case s ls = record { sheet = s; lines = ls }
 unfoldable pub sheets : List Case
 sheets =
     -- rows; no rows
-    case "class object\na 1\na 2\n\nlabel from to\nl 1 2\n\nnode class pick\nx a 1\ny a 1\n\nedge source target\nl x y\n"
+    case "class object\na 1\na 2\n\nlabel from to\nl 1 2\n\nnode class pick fixed\nx a 1 -\ny a 1 -\n\nedge source target\nl x y\n"
     ("            x            y                                       "
     ∷ "            1            2                                       "
     ∷ "                                                           page 1"
     ∷ [])
-    ∷ case "class object\na 1\na 2\n\nlabel from to\nl 1 2\n\nnode class pick\nx a 1\ny a 1\n\nedge source target\nl x y\nl y x\n"
+    ∷ case "class object\na 1\na 2\n\nlabel from to\nl 1 2\n\nnode class pick fixed\nx a 1 -\ny a 1 -\n\nedge source target\nl x y\nl y x\n"
     ("            x            y                                       "
     ∷ "                                                           page 1"
     ∷ [])
+    -- a fixed node (document 02, E4)
+    ∷ case "class object\na 1\na 2\n\nlabel from to\n\nnode class pick fixed\nx a 1 -\ny a 1 2\n\nedge source target\n"
+    ("            x            y                                       "
+    ∷ "            1            2                                       "
+    ∷ "            2            2                                       "
+    ∷ "                                                           page 1"
+    ∷ [])
     -- more than five nodes picked, and five
-    ∷ case "class object\na 1\n\nlabel from to\n\nnode class pick\nu a 1\nv a 1\nw a 1\nx a 1\ny a 1\nz a 1\n\nedge source target\n" ("refused 15 0" ∷ [])
-    ∷ case "class object\na 7\n\nlabel from to\n\nnode class pick\nu a 1\nv a 1\nw a 1\nx a 1\ny a 1\nz a 0\n\nedge source target\n"
+    ∷ case "class object\na 1\n\nlabel from to\n\nnode class pick fixed\nu a 1 -\nv a 1 -\nw a 1 -\nx a 1 -\ny a 1 -\nz a 1 -\n\nedge source target\n" ("refused 15 0" ∷ [])
+    ∷ case "class object\na 7\n\nlabel from to\n\nnode class pick fixed\nu a 1 -\nv a 1 -\nw a 1 -\nx a 1 -\ny a 1 -\nz a 0 -\n\nedge source target\n"
     ("            u            v            w            x            y"
     ∷ "            7            7            7            7            7"
     ∷ "                                                           page 1"
     ∷ [])
     -- 15 just after 7: a breach, the feed and the drawing come before it
-    ∷ case "class object\na 1\n\nlabel from to\n\nnode class pick\nu a 1\nv a 1\nw a 1\nx a 1\ny a 1\nz a 1\nz b 1\n\nedge source target\n" ("refused 14 13" ∷ [])
-    ∷ case "class object\na 2\na 1\n\nlabel from to\n\nnode class pick\nu a 1\nv a 1\nw a 1\nx a 1\ny a 1\nz a 1\n\nedge source target\n" ("refused 3 5" ∷ [])
-    ∷ case "class object\na 1\n\nlabel from to\n\nnode class pick\nu a 1\nv a 1\nw a 1\nx a 1\ny a 1\nz a 1\nt a 2\n\nedge source target\n" ("refused 6 15" ∷ [])
+    ∷ case "class object\na 1\n\nlabel from to\n\nnode class pick fixed\nu a 1 -\nv a 1 -\nw a 1 -\nx a 1 -\ny a 1 -\nz a 1 -\nz b 1 -\n\nedge source target\n" ("refused 14 13" ∷ [])
+    ∷ case "class object\na 2\na 1\n\nlabel from to\n\nnode class pick fixed\nu a 1 -\nv a 1 -\nw a 1 -\nx a 1 -\ny a 1 -\nz a 1 -\n\nedge source target\n" ("refused 3 5" ∷ [])
+    ∷ case "class object\na 1\n\nlabel from to\n\nnode class pick fixed\nu a 1 -\nv a 1 -\nw a 1 -\nx a 1 -\ny a 1 -\nz a 1 -\nt a 2 -\n\nedge source target\n" ("refused 6 21" ∷ [])
     ∷ []
 
 -- ---- buffers
@@ -58,7 +65,7 @@ buffer s n v l bs = record { sheet = s; room = n; after = record { verdict = v; 
 -- one page of two lines, 132 bytes: exactly, one too short, one too long; a refusal that is not 12
 unfoldable pub buffers : List Buffer
 buffers =
-    let sheet : String = "class object\na 1\n\nlabel from to\nl 2 2\n\nnode class pick\nx a 1\n\nedge source target\nl x x\n" in
+    let sheet : String = "class object\na 1\n\nlabel from to\nl 2 2\n\nnode class pick fixed\nx a 1 -\n\nedge source target\nl x x\n" in
     let text : List ℕ = linesText
     ("            x                                                    "
     ∷ "                                                           page 1"

@@ -1,6 +1,7 @@
 -- Parts: how a walk over a part of a byte slice finds a separator, or compares it with another.
 --
--- In order: the search for a separator; the fields that three cuts show; two parts, byte by byte. Assumes nothing.
+-- In order: the search for a separator; the first two fields of a part, which two cuts show; the fields of a line; two parts, byte by byte.
+-- Assumes nothing.
 use mathlib.Core.Path.{_≡_, refl, _∙_, sym, ap}
 use mathlib.Core.Bool.{Bool, true, false, _&&_}
 use mathlib.Core.List.{List, [], _∷_, _++_, append-assoc, append-nil}
@@ -12,9 +13,10 @@ use lib.ListN.{length, getD}
 use lib.Seq.{slice, length-slice}
 use Rattle.tables.proofs.Parts.{slice-none, slice-next, slice-last}
 use Rattle.sheet_text.specs.declared.Span.{Span}
+use Rattle.sheet_text.specs.declared.Front.{Front}
 use Rattle.sheet_text.specs.declared.Fields.{Fields}
 use Rattle.sheet_text.specs.Text.{split, addByte, fields, same}
-use Rattle.sheet_text.specs.inner.Parts.{span, textAt, Inside, Cut, Within, Fielded}
+use Rattle.sheet_text.specs.inner.Parts.{span, textAt, Inside, Cut, Fore, one, two, more, Fronted, Fielded}
 
 -- ---- the search for a separator
 
@@ -78,12 +80,14 @@ some-fields : (s : List ℕ) (a e : ℕ) → 1 ≤ length (fields (slice a e s))
 unfolding fields
 some-fields s a e = omega arith
 
-module _ {s : List ℕ} {line : Span} (i : Inside s line) {m : ℕ} (c : Cut s (line .start) (line .end) 32 m) where
+-- ---- the first two fields of a part
+
+module _ {s : List ℕ} {p : Span} (i : Inside s p) {m : ℕ} (c : Cut s (p .start) (p .end) 32 m) where
   abbrev first : Span
-  first = span (line .start) m
+  first = span (p .start) m
 
   abbrev missing : Span
-  missing = span (line .end) (line .end)
+  missing = span (p .end) (p .end)
 
   first-inside : Inside s first
   first-inside = record { ordered = c .from; ends = omega (arith, c .upTo, i .ends) }
@@ -91,61 +95,117 @@ module _ {s : List ℕ} {line : Span} (i : Inside s line) {m : ℕ} (c : Cut s (
   missing-inside : Inside s missing
   missing-inside = record { ordered = omega arith; ends = i .ends }
 
-  pub one-field : m ≡ line .end → Fielded s line (record { count = 1; first = first; second = missing; third = missing })
+  pub one-field : m ≡ p .end → Fronted s p (record { count = 1; first = first; second = missing; rest = missing })
   one-field z = record {
-    counted = let f = ap length (fields-last c (omega arith)) in omega arith;
-    within = record { first = first-inside; second = missing-inside; third = missing-inside };
-    two = λ n. absurd (omega arith);
-    three = λ n. absurd (omega arith);
+    first = first-inside;
+    second = missing-inside;
+    rest = missing-inside;
+    starts = refl;
+    ends = c .upTo;
+    shown = one refl (fields-last c (omega arith) ∙ rw z);
   }
 
-  module _ (h : m < line .end) {k : ℕ} (d : Cut s (m + 1) (line .end) 32 k) where
+  module _ (h : m < p .end) {k : ℕ} (d : Cut s (m + 1) (p .end) 32 k) where
     abbrev second : Span
     second = span (m + 1) k
 
     second-inside : Inside s second
     second-inside = record { ordered = d .from; ends = omega (arith, d .upTo, i .ends) }
 
-    pub two-fields : k ≡ line .end → Fielded s line (record { count = 2; first = first; second = second; third = missing })
-    two-fields z =
-        let f : fields (textAt s line) ≡ textAt s first ∷ textAt s second ∷ [] = fields-more c h ∙ rw (fields-last d (omega arith), z) in
-        record {
-          counted = let l = ap length f in omega arith;
-          within = record { first = first-inside; second = second-inside; third = missing-inside };
-          two = λ n. record { starts = omega arith; apart = omega arith; ends = d .upTo; shown = f };
-          three = λ n. absurd (omega arith);
-        }
+    pub two-fields : k ≡ p .end → Fronted s p (record { count = 2; first = first; second = second; rest = missing })
+    two-fields z = record {
+      first = first-inside;
+      second = second-inside;
+      rest = missing-inside;
+      starts = refl;
+      ends = c .upTo;
+      shown = two refl (omega arith) (d .upTo) (fields-more c h ∙ rw (fields-last d (omega arith), z));
+    }
 
-    module _ (g : k < line .end) {x : ℕ} (b : Cut s (k + 1) (line .end) 32 x) where
-      abbrev third : Span
-      third = span (k + 1) x
+    pub more-fields : k < p .end → Fronted s p (record { count = 3; first = first; second = second; rest = span (k + 1) (p .end) })
+    more-fields g = record {
+      first = first-inside;
+      second = second-inside;
+      rest = record { ordered = omega arith; ends = i .ends };
+      starts = refl;
+      ends = c .upTo;
+      shown = more refl (omega arith) (omega arith) refl (fields-more c h ∙ rw (fields-more d g));
+    }
 
-      three-inside : Within s (record { count = 3; first = first; second = second; third = third })
-      three-inside = record { first = first-inside; second = second-inside; third = record { ordered = b .from; ends = omega (arith, b .upTo, i .ends) } }
+-- ---- the fields of a line
 
-      pub three-fields : x ≡ line .end → Fielded s line (record { count = 3; first = first; second = second; third = third })
-      three-fields z =
-          let f : fields (textAt s line) ≡ textAt s first ∷ textAt s second ∷ textAt s third ∷ [] = fields-more c h ∙ rw (fields-more d g, fields-last b (omega arith), z) in
-          record {
-            counted = let l = ap length f in omega arith;
-            within = three-inside;
-            two = λ n. absurd (omega arith);
-            three = λ n. record { starts = omega arith; apart = omega arith; after = omega arith; ends = b .upTo; shown = f };
-          }
+module _ {s : List ℕ} {line : Span} {x : Front} (a : Fronted s line x) where
+  pub front-few : x .count ≤ 3
+  front-few = by (a .shown)
+    where
+      by : Fore s line x → x .count ≤ 3
+      by (one n e) = omega arith
+      by (two n apart ends e) = omega arith
+      by (more n apart after ends e) = omega arith
 
-      pub more-fields : x < line .end → Fielded s line (record { count = 4; first = first; second = second; third = third })
-      more-fields z =
-          let f : fields (textAt s line) ≡ textAt s first ∷ textAt s second ∷ textAt s third ∷ fields (slice (x + 1) (line .end) s) =
-          fields-more c h ∙ rw (fields-more d g, fields-more b z) in
-          record {
-            counted = let l = ap length f in let o = some-fields s (x + 1) (line .end) in omega arith;
-            within = record { first = first-inside; second = second-inside; third = three-inside .third };
-            two = λ n. absurd (omega arith);
-            three = λ n. absurd (omega arith);
-          }
+  abbrev firsts : Fields
+  firsts = record { count = x .count; first = x .first; second = x .second; third = x .rest; fourth = x .rest }
+
+  pub few-fields : x .count < 3 → Fielded s line firsts
+  few-fields h = by (a .shown)
+    where
+      by : Fore s line x → Fielded s line firsts
+      by (one n e) = record {
+        counted = let l = ap length e in omega arith;
+        within = record { first = a .first; second = a .second; third = a .rest; fourth = a .rest };
+        two = λ z. absurd (omega arith);
+        three = λ z. absurd (omega arith);
+        four = λ z. absurd (omega arith);
+      }
+      by (two n apart ends e) = record {
+        counted = let l = ap length e in omega arith;
+        within = record { first = a .first; second = a .second; third = a .rest; fourth = a .rest };
+        two = λ z. record { starts = omega (arith, a .starts); apart = apart; ends = ends; shown = e };
+        three = λ z. absurd (omega arith);
+        four = λ z. absurd (omega arith);
+      }
+      by (more n apart after ends e) = absurd (omega arith)
+
+  module _ (h : 3 ≤ x .count) {y : Front} (b : Fronted s (x .rest) y) where
+    abbrev both : Fields
+    both = record { count = 2 + y .count; first = x .first; second = x .second; third = y .first; fourth = y .second }
+
+    pub rest-fields : Fielded s line both
+    rest-fields = by (a .shown) (b .shown)
+      where
+        by : Fore s line x → Fore s (x .rest) y → Fielded s line both
+        by (one n e) q = absurd (omega arith)
+        by (two n apart ends e) q = absurd (omega arith)
+        by (more n apart after ends e) (one k f) =
+            let all : fields (textAt s line) ≡ textAt s (x .first) ∷ textAt s (x .second) ∷ textAt s (y .first) ∷ [] = e ∙ rw f in
+            record {
+              counted = let l = ap length all in omega arith;
+              within = record { first = a .first; second = a .second; third = b .first; fourth = b .second };
+              two = λ z. absurd (omega arith);
+              three = λ z. record { starts = omega (arith, a .starts); apart = apart; after = omega (arith, b .starts); ends = omega (arith, b .ends); shown = all };
+              four = λ z. absurd (omega arith);
+            }
+        by (more n apart after ends e) (two k part till f) =
+            let all : fields (textAt s line) ≡ textAt s (x .first) ∷ textAt s (x .second) ∷ textAt s (y .first) ∷ textAt s (y .second) ∷ [] = e ∙ rw f in
+            record {
+              counted = let l = ap length all in omega arith;
+              within = record { first = a .first; second = a .second; third = b .first; fourth = b .second };
+              two = λ z. absurd (omega arith);
+              three = λ z. absurd (omega arith);
+              four = λ z. all;
+            }
+        by (more n apart after ends e) (more k part behind till f) =
+            let all : fields (textAt s line) ≡ textAt s (x .first) ∷ textAt s (x .second) ∷ textAt s (y .first) ∷ textAt s (y .second) ∷ fields (textAt s (y .rest)) = e ∙ rw f in
+            record {
+              counted = let l = ap length all in let o = some-fields s (y .rest .start) (y .rest .end) in omega arith;
+              within = record { first = a .first; second = a .second; third = b .first; fourth = b .second };
+              two = λ z. absurd (omega arith);
+              three = λ z. absurd (omega arith);
+              four = λ z. absurd (omega arith);
+            }
 
 -- another count of fields than n
-pub wrong-count : {s : List ℕ} {line : Span} {f : Fields} → Fielded s line f → (n : ℕ) → n < 4 → (f .count ≡ n → ⊥) → length (fields (textAt s line)) ≡ n → ⊥
+pub wrong-count : {s : List ℕ} {line : Span} {f : Fields} → Fielded s line f → (n : ℕ) → n < 5 → (f .count ≡ n → ⊥) → length (fields (textAt s line)) ≡ n → ⊥
 wrong-count g n h d l = d (g .counted ∙ rw l (omega arith))
 
 -- ---- two parts, byte by byte

@@ -1,6 +1,6 @@
 -- Words: what it says that a part of a slice is a name or a number, byte by byte, and a number's value.
 --
--- In order: every byte one of some; a name; a number; its value. Assumes nothing.
+-- In order: every byte one of some; a name; a number; its value; a number or a dash. Assumes nothing.
 use mathlib.Core.Path.{_≡_, refl, _∙_, sym}
 use mathlib.Core.Bool.{Bool, true, false, _&&_}
 use mathlib.Core.List.{List, [], _∷_}
@@ -11,11 +11,11 @@ use borrow.Author.Tests.{le-leb, lt-leb, ne-eqb}
 use lib.Dec.{eqb, leb, eqb·suc-zero, eqb·suc-suc}
 use lib.ListN.{length, getD}
 use lib.Seq.{slice, length-slice}
-use Rattle.limits.specs.Limits.{mostDigits, mostLetters}
+use Rattle.limits.specs.Limits.{mostDigits, mostLetters, anyObject}
 use Rattle.tables.specs.Lists.{all}
 use Rattle.tables.proofs.Tests.{both-true, leb-is}
 use Rattle.tables.proofs.Parts.{slice-none, slice-next}
-use Rattle.sheet_text.specs.Text.{within, isName, noLeadingZero, isNumber, valueFrom, valueOf}
+use Rattle.sheet_text.specs.Text.{within, isName, noLeadingZero, isNumber, valueFrom, valueOf, isDash, isNumberOrDash, numberOrAny}
 use Rattle.sheet_text.specs.inner.Parts.{span, Inside}
 
 and-false : (b : Bool) → b && false ≡ false
@@ -177,3 +177,19 @@ module _ {s : List ℕ} {a e n i : ℕ} (c : Valuing s a e n i) (k : e ≤ lengt
         digits = digits-more h .1;
         left = rw (slice-next s i e h k) at (c .left);
       }
+
+-- ---- a number or a dash
+
+module _ (xs : List ℕ) where
+  pub dash-any : isDash xs ≡ true → anyObject ≡ numberOrAny xs
+  unfolding numberOrAny
+  dash-any t = rw t
+
+  module _ (t : isDash xs ≡ false) where
+    pub dash-or-number : isNumberOrDash xs ≡ true → isNumber xs ≡ true
+    unfolding isNumberOrDash
+    dash-or-number u = rw t at u
+
+    pub number-any : valueOf xs ≡ numberOrAny xs
+    unfolding numberOrAny
+    number-any = rw t

@@ -1,15 +1,16 @@
--- Text: bytes, lines and fields, names and numbers (document 01, 'The sheet'; document 02, E1, for the star).
+-- Text: bytes, lines and fields, names and numbers (document 01, 'The sheet'; document 02, E1, for the star, E4,
+-- for the dash).
 --
--- In order: bytes of a quoted text; parts between separators; names; numbers, read and written; equality and look-up of names; names of labels,
--- with a star or without. Assumes nothing.
+-- In order: bytes of a quoted text; parts between separators; names; numbers, read and written; equality and look-up of names; a number or a dash;
+-- names of labels, with a star or without. Assumes nothing.
 use Prim.Native.Nat.{ℕ, zero, suc, _+_, _*_, _-_, _/_, _%_}
 use Prim.Native.Char.{code}
 use Prim.Native.String.{String}
-use mathlib.Core.Bool.{Bool, true, false, _&&_, not, cond}
+use mathlib.Core.Bool.{Bool, true, false, _&&_, _||_, not, cond}
 use mathlib.Core.List.{List, [], _∷_}
 use lib.Dec.{eqb, leb, ltb}
 use lib.ListN.{length, getD, take}
-use Rattle.limits.specs.Limits.{mostDigits, mostLetters}
+use Rattle.limits.specs.Limits.{mostDigits, mostLetters, anyObject}
 use Rattle.tables.specs.Lists.{all, any}
 
 unfoldable pub bytes : String → List ℕ
@@ -84,6 +85,17 @@ find name (n ∷ ns) = let later = find name ns in cond (same name n) 0 (later +
 
 unfoldable pub known : List ℕ → List (List ℕ) → Bool
 known name names = ltb (find name names) (length names)
+
+-- ---- the fixed object of a node: "with `-` or 65536 for any" (document 02, E4)
+
+unfoldable pub isDash : List ℕ → Bool
+isDash bs = same bs (bytes "-")
+
+unfoldable pub isNumberOrDash : List ℕ → Bool
+isNumberOrDash bs = isDash bs || isNumber bs
+
+unfoldable pub numberOrAny : List ℕ → ℕ
+numberOrAny bs = cond (isDash bs) anyObject (valueOf bs)
 
 -- ---- names of labels, which are held as they are written
 

@@ -1,5 +1,6 @@
-// Text in a byte slice: lines and fields, names and numbers, names of labels.
+// Text in a byte slice: lines and fields, names and numbers, a number or a dash, names of labels.
 
+use limits::ANY_OBJECT;
 use limits::DIGITS;
 use limits::LABELS;
 use limits::LETTERS;
@@ -8,8 +9,8 @@ ghost use mathlib.Core.Bool.{true};
 ghost use Prim.Native.Nat.{_<_};
 ghost use Rattle.limits.specs.Limits.{mostLabels};
 ghost use Rattle.tables.specs.Lists.{all};
-ghost use Rattle.sheet_text.specs.Text.{within, isName, isNumber, valueOf, same, find, isStarred, isLabelName, differByStar, clashes};
-ghost use Rattle.sheet_text.specs.inner.Parts.{span, textAt, Inside, Cut, Fielded, namesOf, noNames, withName, InsideBoth, Starless, Numeral, Sought};
+ghost use Rattle.sheet_text.specs.Text.{within, isName, isNumber, valueOf, same, find, isDash, isNumberOrDash, numberOrAny, isStarred, isLabelName, differByStar, clashes};
+ghost use Rattle.sheet_text.specs.inner.Parts.{span, textAt, Inside, Cut, Fronted, Fielded, namesOf, noNames, withName, InsideBoth, Starless, Numeral, NumeralOrDash, Sought};
 
 // A part of a slice: the place where it starts, and the place after its end.
 pub struct Span {
@@ -23,12 +24,21 @@ pub struct Names {
     pub n: usize,
 }
 
-// How many fields a line has, 4 where it has more than 3, and the first three; one that is missing is empty.
+// How many fields a line has, 5 where it has more than 4, and the first four; one that is missing is empty.
 pub struct Fields {
     pub count: usize,
     pub first: Span,
     pub second: Span,
     pub third: Span,
+    pub fourth: Span,
+}
+
+// How many fields a part has, 3 where it has more than 2, the first two, and the rest behind them; what is missing is empty.
+struct Front {
+    count: usize,
+    first: Span,
+    second: Span,
+    rest: Span,
 }
 
 // The place of the next separator, or the end.
@@ -46,48 +56,72 @@ pub fn cut(s: &[u8], a: usize, e: usize, sep: u8) -> usize
     e
 }
 
+// The first two fields of a part, and the rest.
+fn front_of(s: &[u8], p: Span) -> Front
+    requires { ⌜ Inside (now s) p ⌝ }
+    ensures { λ r. ⌜ Fronted (now (s .entry)) p r ⌝ }
+{
+    let a = p.start;
+    let e = p.end;
+    let missing = Span { start: e, end: e };
+    let m = cut(s, a, e, 32);
+    let first = Span { start: a, end: m };
+    if m == e {
+        return Front {
+            count: 1,
+            first,
+            second: missing,
+            rest: missing,
+        };
+    }
+    let b = m + 1;
+    let k = cut(s, b, e, 32);
+    let second = Span { start: b, end: k };
+    if k == e {
+        return Front {
+            count: 2,
+            first,
+            second,
+            rest: missing,
+        };
+    }
+    let c = k + 1;
+    let rest = Span { start: c, end: e };
+    Front {
+        count: 3,
+        first,
+        second,
+        rest,
+    }
+}
+
 // The fields of a line.
 pub fn fields_of(s: &[u8], line: Span) -> Fields
     requires { ⌜ Inside (now s) line ⌝ }
     ensures { λ r. ⌜ Fielded (now (s .entry)) line r ⌝ }
 {
-    let a = line.start;
-    let e = line.end;
-    let missing = Span { start: e, end: e };
-    let m = cut(s, a, e, 32);
-    let first = Span { start: a, end: m };
-    if m == e {
+    let a = front_of(s, line);
+    let first = a.first;
+    let second = a.second;
+    let rest = a.rest;
+    if a.count < 3 {
         return Fields {
-            count: 1,
-            first,
-            second: missing,
-            third: missing,
-        };
-    }
-    let k = cut(s, m + 1, e, 32);
-    let second = Span {
-        start: m + 1,
-        end: k,
-    };
-    if k == e {
-        return Fields {
-            count: 2,
+            count: a.count,
             first,
             second,
-            third: missing,
+            third: rest,
+            fourth: rest,
         };
     }
-    let x = cut(s, k + 1, e, 32);
-    let third = Span {
-        start: k + 1,
-        end: x,
-    };
-    let count = if x == e { 3 } else { 4 };
+    let b = front_of(s, rest);
+    let third = b.first;
+    let fourth = b.second;
     Fields {
-        count,
+        count: 2 + b.count,
         first,
         second,
         third,
+        fourth,
     }
 }
 
@@ -212,6 +246,35 @@ pub fn with_name(names: Names, p: Span) -> Names
     more.spans[n] = p;
     more.n = n + 1;
     more
+}
+
+// ---- the fixed object of a node, or a dash for any
+
+// Whether a part is a dash.
+fn is_dash(s: &[u8], p: Span) -> bool
+    requires { ⌜ Inside (now s) p ⌝ }
+    ensures { λ r. ⌜ r ≡ isDash (textAt (now (s .entry)) p) ⌝ }
+{
+    same_text(s, p, b"-", Span { start: 0, end: 1 })
+}
+
+// Whether a part is a number or a dash.
+pub fn is_number_or_dash(s: &[u8], p: Span) -> bool
+    requires { ⌜ Inside (now s) p ⌝ }
+    ensures { λ r. ⌜ r ≡ isNumberOrDash (textAt (now (s .entry)) p) ⌝ }
+{
+    is_dash(s, p) | is_number(s, p)
+}
+
+// The value of a number; the word for any object where it is a dash.
+pub fn number_or_any(s: &[u8], p: Span) -> u32
+    requires { ⌜ NumeralOrDash (now s) p ⌝ }
+    ensures { λ r. ⌜ r ≡ numberOrAny (textAt (now (s .entry)) p) ⌝ }
+{
+    if is_dash(s, p) {
+        return ANY_OBJECT;
+    }
+    value_of(s, p)
 }
 
 // ---- names of labels, with a star or without

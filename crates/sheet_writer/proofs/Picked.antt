@@ -12,7 +12,7 @@ use lib.Seq.{slice, slice-cons}
 use borrow.Author.Tests.{eq-eqb, ne-eqb}
 use Rattle.tables.specs.Lists.{_∈_, keep}
 use Rattle.drawing.specs.declared.Node.{Node}
-use Rattle.drawing.specs.Drawing.{node, isPicked}
+use Rattle.drawing.specs.Drawing.{noNode, isPicked}
 use Rattle.drawing.specs.declared.Drawing.{Drawing}
 use Rattle.drawing.specs.Builder.{view}
 use Rattle.drawing.proofs.Builder.{Roomy}
@@ -73,7 +73,7 @@ picked-none s x d i h =
     rw (drop-of-length-le (take (x .n) (x .spans)) {i = i} k)
 
 module _ {s : List ℕ} {x : Names} {d : Drawing} (g : Named s x d) (r : Roomy d) (i : ℕ) (h : i < d .n) where
-  picked-next : pickedFrom s x d i ≡ cond (isPicked (getD (d .nodes) i (node 0 0))) (textAt s (getD (x .spans) i (span 0 0)) ∷ pickedFrom s x d (i + 1)) (pickedFrom s x d (i + 1))
+  picked-next : pickedFrom s x d i ≡ cond (isPicked (getD (d .nodes) i noNode)) (textAt s (getD (x .spans) i (span 0 0)) ∷ pickedFrom s x d (i + 1)) (pickedFrom s x d (i + 1))
   unfolding pickedFrom
   picked-next =
       let f = g .spans .few in
@@ -81,15 +81,15 @@ module _ {s : List ℕ} {x : Names} {d : Drawing} (g : Named s x d) (r : Roomy d
       let e = g .each in
       let n = r .nodes in
       rw add-one
-      (picked-cons (ap (map (textAt s)) (slice-cons i (x .n) (x .spans) (span 0 0) (omega arith) (omega arith))) (slice-cons i (d .n) (d .nodes) (node 0 0) h (omega arith)))
+      (picked-cons (ap (map (textAt s)) (slice-cons i (x .n) (x .spans) (span 0 0) (omega arith) (omega arith))) (slice-cons i (d .n) (d .nodes) noNode h (omega arith)))
 
-  picked-takes : getD (d .nodes) i (node 0 0) .pick ≡ 1 → pickedFrom s x d i ≡ textAt s (getD (x .spans) i (span 0 0)) ∷ pickedFrom s x d (i + 1)
+  picked-takes : getD (d .nodes) i noNode .pick ≡ 1 → pickedFrom s x d i ≡ textAt s (getD (x .spans) i (span 0 0)) ∷ pickedFrom s x d (i + 1)
   unfolding isPicked
-  picked-takes e = picked-next ∙ rw (eq-eqb (getD (d .nodes) i (node 0 0) .pick) 1 e)
+  picked-takes e = picked-next ∙ rw (eq-eqb (getD (d .nodes) i noNode .pick) 1 e)
 
-  picked-skips : (getD (d .nodes) i (node 0 0) .pick ≡ 1 → ⊥) → pickedFrom s x d i ≡ pickedFrom s x d (i + 1)
+  picked-skips : (getD (d .nodes) i noNode .pick ≡ 1 → ⊥) → pickedFrom s x d i ≡ pickedFrom s x d (i + 1)
   unfolding isPicked
-  picked-skips e = picked-next ∙ rw (ne-eqb (getD (d .nodes) i (node 0 0) .pick) 1 e)
+  picked-skips e = picked-next ∙ rw (ne-eqb (getD (d .nodes) i noNode .pick) 1 e)
 
 -- ---- a text of names, partly written
 
@@ -105,7 +105,7 @@ naming-start out at {all} {left} s x d same = record { upTo = omega arith; putti
 module _ {before after : List ℕ} {at : ℕ} {all : List ℕ} {left : List (List ℕ) → List ℕ} {s : List ℕ} {x : Names} {d : Drawing} {i k : ℕ}
     (l : Naming before after at all left s x d i k) (g : Named s x d) (room : Roomy d) where
   -- one more name, and what is left after it
-  pub naming-takes : i < d .n → getD (d .nodes) i (node 0 0) .pick ≡ 1 → {one : List ℕ} {then′ : List (List ℕ) → List ℕ}
+  pub naming-takes : i < d .n → getD (d .nodes) i noNode .pick ≡ 1 → {one : List ℕ} {then′ : List (List ℕ) → List ℕ}
       → ((fs : List (List ℕ)) → left (textAt s (getD (x .spans) i (span 0 0)) ∷ fs) ≡ one ++ then′ fs) → {new : List ℕ} {r : ℕ} → Put after new k one r
       → Naming before new at all then′ s x d (i + 1) r
   naming-takes h e next p = record {
@@ -113,7 +113,7 @@ module _ {before after : List ℕ} {at : ℕ} {all : List ℕ} {left : List (Lis
     putting = putting-some (putting-same (ap left (picked-takes g room i h e) ∙ next (pickedFrom s x d (i + 1))) (l .putting)) p;
   }
 
-  pub naming-skips : i < d .n → (getD (d .nodes) i (node 0 0) .pick ≡ 1 → ⊥) → Naming before after at all left s x d (i + 1) k
+  pub naming-skips : i < d .n → (getD (d .nodes) i noNode .pick ≡ 1 → ⊥) → Naming before after at all left s x d (i + 1) k
   naming-skips h e = record { upTo = omega arith; putting = putting-same (ap left (picked-skips g room i h e)) (l .putting) }
 
   pub naming-end : d .n ≤ i → {last : List ℕ} → left [] ≡ last → {new : List ℕ} {r : ℕ} → Put after new k last r → Put before new at all r

@@ -38,16 +38,22 @@ pub fn full_feed(r: &mut Random) -> Vec<u32> {
     }
 }
 
-/// A drawing over a feed's classes and labels, valid where the feed has any.
+/// A drawing over the classes and labels of an accepted feed, valid where it has any; in every other one some nodes are fixed.
 pub fn drawing(r: &mut Random, feed: &[u32], most_nodes: usize, most_edges: usize) -> Vec<u32> {
-    let (classes, labels) = (feed.first().copied().unwrap_or(0) as usize, feed.get(1).copied().unwrap_or(0) as usize);
+    let mut words = unfixed(r, [feed[0] as usize, feed[1] as usize], most_nodes, most_edges);
+    fix_some(r, feed, &mut words);
+    words
+}
+
+/// A drawing over so many classes and labels, no node of it fixed.
+fn unfixed(r: &mut Random, [classes, labels]: [usize; 2], most_nodes: usize, most_edges: usize) -> Vec<u32> {
     let n = 1 + r.below(most_nodes);
     let e = if labels == 0 { 0 } else { r.below(most_edges + 1) };
     let mut words = vec![n as u32, e as u32];
     let picked = r.below(n);
     let often = 1 + r.below(4);
     for i in 0..n {
-        words.extend([r.below(classes) as u32, (i == picked || r.one_in(often + 1)) as u32]);
+        words.extend([r.below(classes) as u32, (i == picked || r.one_in(often + 1)) as u32, model::ANY]);
     }
     let shape = r.below(4);
     for i in 0..e {
@@ -63,19 +69,56 @@ pub fn drawing(r: &mut Random, feed: &[u32], most_nodes: usize, most_edges: usiz
     words
 }
 
-/// A feed and a drawing that is found in it: each node has its object first, and the tables hold what these need, and some pairs more. The
-/// pair of an edge of a two-way label stands either way round.
+/// The third word of a fixed node: mostly one of these objects, now and then any low one or the highest.
+pub fn fixed(r: &mut Random, objects: &[u32]) -> u32 {
+    match r.below(24) {
+        0 => 65_535,
+        1 => r.below(9) as u32,
+        _ => objects.get(r.below(objects.len())).copied().unwrap_or(7),
+    }
+}
+
+/// Fixes some nodes of every other drawing, or all, each by the objects that are given for it.
+fn fix(r: &mut Random, drawing: &mut [u32], objects: &[Vec<u32>]) {
+    if r.one_in(2) {
+        return;
+    }
+    let often = 1 + r.below(4);
+    for (k, of) in objects.iter().enumerate() {
+        if r.one_in(often) {
+            drawing[4 + 3 * k] = fixed(r, of);
+        }
+    }
+}
+
+/// The same with the objects of its class in an accepted feed.
+pub fn fix_some(r: &mut Random, feed: &[u32], drawing: &mut [u32]) {
+    let classes = model::read_feed(feed).classes;
+    let objects = |class: u32| classes.get(class as usize).map_or(Vec::new(), |table| table.iter().map(|pair| pair.0).collect());
+    let nodes: Vec<Vec<u32>> = drawing[2..].chunks(3).take(drawing[0] as usize).map(|node| objects(node[0])).collect();
+    fix(r, drawing, &nodes);
+}
+
+/// The drawing with no node picked.
+pub fn unpick(drawing: &mut [u32]) {
+    let nodes = drawing[0] as usize;
+    drawing.iter_mut().skip(3).step_by(3).take(nodes).for_each(|pick| *pick = 0);
+}
+
+/// A feed and a drawing that is mostly found in it: each node has its object first, and the tables hold what these need, and some pairs more.
+/// The pair of an edge of a two-way label stands either way round. A fixed node is mostly fixed to its object.
 pub fn found(r: &mut Random, most_nodes: usize, most_edges: usize) -> (Vec<u32>, Vec<u32>) {
     let (c, l, objects) = (1 + r.below(4), 1 + r.below(4), 1 + r.below(6));
-    let words = drawing(r, &[c as u32, l as u32], most_nodes, most_edges);
+    let mut words = unfixed(r, [c, l], most_nodes, most_edges);
     let n = words[0] as usize;
-    let at: Vec<u32> = (0..n).map(|_| r.below(objects) as u32).collect();
+    let at: Vec<u32> = (0..n).map(|_| if r.one_in(60) { 65_535 } else { r.below(objects) as u32 }).collect();
     let (mut classes, mut labels) = (vec![BTreeSet::new(); c], vec![BTreeSet::new(); l]);
     let two_way = marks(r, l);
-    for (i, node) in words[2..2 + 2 * n].chunks(2).enumerate() {
-        classes[node[0] as usize].insert((at[i], at[i]));
+    let (nodes, edges) = words[2..].split_at(3 * n);
+    for (node, &object) in nodes.chunks(3).zip(&at) {
+        classes[node[0] as usize].insert((object, object));
     }
-    for edge in words[2 + 2 * n..].chunks(3) {
+    for edge in edges.chunks(3) {
         let [label, source, target] = [0, 1, 2].map(|k| edge[k] as usize);
         let turned = two_way[label] && r.one_in(2);
         labels[label].insert(if turned { (at[target], at[source]) } else { (at[source], at[target]) });
@@ -85,6 +128,7 @@ pub fn found(r: &mut Random, most_nodes: usize, most_edges: usize) -> (Vec<u32>,
         classes[r.below(c)].insert((u, u));
         labels[r.below(l)].insert((u, v));
     }
+    fix(r, &mut words, &at.iter().map(|&object| vec![object]).collect::<Vec<_>>());
     (feed_with(&classes, &labels, &two_way), words)
 }
 

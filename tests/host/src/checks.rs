@@ -103,9 +103,19 @@ pub fn feeds(tally: &mut Tally, cases: usize) {
     causes.show(tally, "feeds", 1, 4);
 }
 
+/// What a 6 can be about, by the word at its place.
+const WORDS: [&str; 6] = ["class", "pick", "fixed object", "label", "source", "target"];
+
+/// Which of these it is.
+fn word_of(drawing: &[u32], place: usize) -> usize {
+    let edge = place >= 2 + 3 * drawing[0] as usize;
+    (place - 2) % 3 + if edge { 3 } else { 0 }
+}
+
 pub fn drawings(tally: &mut Tally, cases: usize) {
     let mut r = Random::new(2);
     let mut met = [0usize; 8];
+    let mut words = [0usize; WORDS.len()];
     let mut causes = Causes::default();
     for i in 0..cases {
         let mut feed = cases::feed(&mut r);
@@ -114,9 +124,7 @@ pub fn drawings(tally: &mut Tally, cases: usize) {
             cases::damage(&mut r, &mut feed);
         }
         if r.one_in(20) {
-            for pick in valid.iter_mut().skip(3).step_by(2) {
-                *pick = 0;
-            }
+            cases::unpick(&mut valid);
         }
         let drawing = match i % 3 {
             0 => valid,
@@ -133,9 +141,13 @@ pub fn drawings(tally: &mut Tally, cases: usize) {
         };
         let expected = model::check_drawing(&feed, &drawing);
         met[expected.0 as usize] += 1;
+        if let (6, place) = expected {
+            words[word_of(&drawing, place as usize)] += 1;
+        }
         tally.same("check_drawing", &said(&matcher::check_drawing(&feed, &drawing)), &expected, &drawing);
     }
     tally.met("drawings by number", &met);
+    tally.met_by_name("drawings: the word of a 6", &WORDS.map(String::from), &words);
     causes.show(tally, "drawings", 5, 6);
 }
 
@@ -156,7 +168,7 @@ pub fn ceilings(tally: &mut Tally) {
     let feed = [1, 0, 0];
     for (n, verdict) in [(12u32, (0, 0)), (13, (5, 0))] {
         let mut drawing = vec![n, 0];
-        drawing.extend((0..n).flat_map(|_| [0, 1]));
+        drawing.extend((0..n).flat_map(|_| [0, 1, model::ANY]));
         tally.same("12 nodes pass, 13 give 5", &said(&matcher::check_drawing(&feed, &drawing)), &verdict, &drawing);
     }
 }

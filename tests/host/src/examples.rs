@@ -12,11 +12,15 @@ pub fn feed(classes: &[&[u32]], labels: &[&[(u32, u32)]]) -> Vec<u32> {
     cases::feed_of(&classes, &labels)
 }
 
-/// Nodes are (class, pick), edges (label, source, target).
+/// Nodes are (class, pick), each any object of its class; edges are (label, source, target).
 pub fn drawing(nodes: &[(u32, u32)], edges: &[(u32, u32, u32)]) -> Vec<u32> {
+    fixed_drawing(&nodes.iter().map(|&(class, pick)| (class, pick, model::ANY)).collect::<Vec<_>>(), edges)
+}
+
+/// Nodes are (class, pick, fixed).
+pub fn fixed_drawing(nodes: &[(u32, u32, u32)], edges: &[(u32, u32, u32)]) -> Vec<u32> {
     let mut words = vec![nodes.len() as u32, edges.len() as u32];
-    words.extend(nodes.iter().flat_map(|&(class, pick)| [class, pick]));
-    words.extend(edges.iter().flat_map(|&(label, source, target)| [label, source, target]));
+    words.extend(nodes.iter().chain(edges).flat_map(|&(a, b, c)| [a, b, c]));
     words
 }
 

@@ -12,14 +12,15 @@ use crate::Tally;
 fn objects(count: usize) -> Vec<u8> {
     let mut sheet = Sheet::default();
     sheet.sections[0] = (0..count).map(|object| vec!["a".to_string(), object.to_string()]).collect();
-    sheet.sections[2] = vec!["x a 1".split(' ').map(String::from).collect()];
+    sheet.sections[2] = vec!["x a 1 -".split(' ').map(String::from).collect()];
     sheet.bytes()
 }
 
 pub fn lengths(tally: &mut Tally) {
     let mut sheets: Vec<Vec<u8>> = CASES.iter().map(|(sheet, _)| sheet.as_bytes().to_vec()).collect();
     let [bottle, tray] = [&include_bytes!("../../../examples/bottle.sheet")[..], include_bytes!("../../../examples/tray.sheet")];
-    sheets.extend([bottle, tray, include_bytes!("../../../examples/touching.sheet")].map(<[u8]>::to_vec));
+    let [touching, block] = [&include_bytes!("../../../examples/touching.sheet")[..], include_bytes!("../../../examples/block.sheet")];
+    sheets.extend([bottle, tray, touching, block].map(<[u8]>::to_vec));
     sheets.push(objects(500));
     // rows, no row, a refusal
     let mut met = [0; 3];
@@ -56,13 +57,13 @@ fn most(picks: usize) -> usize {
 
 /// 12 picked nodes with names of 12 letters, 341 objects at the last and one at the others, all of five digits: 341 rows.
 fn widest() -> Vec<u8> {
-    let line = |fields: [&str; 3]| fields.iter().filter(|field| !field.is_empty()).map(|field| field.to_string()).collect::<Vec<_>>();
+    let line = |fields: &[&str]| fields.iter().map(|field| field.to_string()).collect::<Vec<_>>();
     let mut sheet = Sheet::default();
-    sheet.sections[0].push(line(["one", "65535", ""]));
-    sheet.sections[0].extend((0..ROW_WORDS / NODES).map(|k| line(["many", &(10_000 + k).to_string(), ""])));
+    sheet.sections[0].push(line(&["one", "65535"]));
+    sheet.sections[0].extend((0..ROW_WORDS / NODES).map(|k| line(&["many", &(10_000 + k).to_string()])));
     for k in 0..NODES {
         let name = format!("abcdefghijk{}", char::from(b'a' + k as u8));
-        sheet.sections[2].push(line([&name, if k + 1 < NODES { "one" } else { "many" }, "1"]));
+        sheet.sections[2].push(line(&[&name, if k + 1 < NODES { "one" } else { "many" }, "1", "-"]));
     }
     sheet.bytes()
 }

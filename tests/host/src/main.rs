@@ -4,7 +4,9 @@
 #[allow(dead_code)]
 mod cases;
 mod checks;
+mod dashes;
 mod examples;
+mod fixed;
 mod listings;
 mod lists;
 mod manual;
@@ -107,8 +109,10 @@ fn few(tally: &mut Tally) {
     manual::examples(tally);
     queries::few(tally, 100);
     two_way::all(tally, 20);
+    fixed::all(tally, 20);
     sheets::named(tally);
     stars::named(tally);
+    dashes::named(tally);
     sheets::ceilings(tally);
     sheets::random(tally, 300);
     listings::longest(tally);
@@ -119,41 +123,46 @@ fn few(tally: &mut Tally) {
     refusals::words(tally);
 }
 
+/// All cases.
+fn all(tally: &mut Tally) {
+    checks::feeds(tally, 200_000);
+    checks::drawings(tally, 200_000);
+    checks::ceilings(tally);
+    runs::belt(tally);
+    runs::edges(tally);
+    runs::random(tally, 300_000);
+    runs::long(tally, 1_000);
+    runs::large(tally, 800);
+    lists::all(tally);
+    examples::belt(tally);
+    examples::sources(tally);
+    manual::all(tally);
+    queries::all(tally, 66_000);
+    two_way::all(tally, 5_000);
+    fixed::all(tally, 5_000);
+    sheets::named(tally);
+    stars::named(tally);
+    dashes::named(tally);
+    sheets::ceilings(tally);
+    sheets::mutations(tally);
+    stars::mutations(tally);
+    dashes::mutations(tally);
+    sheets::random(tally, 100_000);
+    listings::lengths(tally);
+    listings::longest(tally);
+    pages::named(tally);
+    pages::every_length(tally);
+    pages::longest(tally);
+    pages::random(tally, 100_000);
+    raw::all(tally, 20_000);
+    refusals::words(tally);
+    stack::all(tally);
+}
+
 fn main() {
     let mut tally = Tally::default();
     tally.few = std::env::args().any(|argument| argument == "--few");
-    if tally.few {
-        few(&mut tally);
-        tally.end();
-    }
-    checks::feeds(&mut tally, 200_000);
-    checks::drawings(&mut tally, 200_000);
-    checks::ceilings(&mut tally);
-    runs::belt(&mut tally);
-    runs::edges(&mut tally);
-    runs::random(&mut tally, 300_000);
-    runs::long(&mut tally, 1_000);
-    runs::large(&mut tally, 800);
-    lists::all(&mut tally);
-    examples::belt(&mut tally);
-    examples::sources(&mut tally);
-    manual::all(&mut tally);
-    queries::all(&mut tally, 66_000);
-    two_way::all(&mut tally, 5_000);
-    sheets::named(&mut tally);
-    stars::named(&mut tally);
-    sheets::ceilings(&mut tally);
-    sheets::mutations(&mut tally);
-    stars::mutations(&mut tally);
-    sheets::random(&mut tally, 100_000);
-    listings::lengths(&mut tally);
-    listings::longest(&mut tally);
-    pages::named(&mut tally);
-    pages::every_length(&mut tally);
-    pages::longest(&mut tally);
-    pages::random(&mut tally, 100_000);
-    raw::all(&mut tally, 20_000);
-    refusals::words(&mut tally);
-    stack::all(&mut tally);
+    let cases = if tally.few { few } else { all };
+    cases(&mut tally);
     tally.end();
 }

@@ -149,7 +149,7 @@ fn sample(tally: &mut Tally) -> Case {
 fn crossed(sizes: &[u32]) -> Case {
     let mut feed = vec![2, 0, sizes[0], sizes[1]];
     feed.extend(sizes.iter().flat_map(|&n| (0..n).flat_map(|i| [i, i])));
-    let drawing = vec![2, 0, 0, 1, 1, 1];
+    let drawing = vec![2, 0, 0, 1, model::ANY, 1, 1, model::ANY];
     let list = model::translate(&model::read_drawing(&drawing)).list;
     Case { feed, drawing, list, lengths: [60, 600_000, 140_000], ..Case::default() }
 }
@@ -218,12 +218,24 @@ fn small(tally: &mut Tally) {
 
 /// Section 4: a feed with a two-way label, and the rows of a drawing over it.
 fn touching(tally: &mut Tally) {
-    let words_of = "2 1  0 1  0 1  0 0 1";
+    let words_of = "2 1  0 1 65536  0 1 65536  0 0 1";
     says(tally, &format!("`{}`", words_of.replace("  ", " ")));
     let (feed, drawing) = (words(tally, "touching-feed", 1), numbers(words_of));
     let list = model::translate(&model::read_drawing(&drawing)).list;
     answers(tally, "the manual's touching regions", &Case { feed, drawing, list, ..Case::default() }, &numbers(&text("touching-rows")));
     says(tally, &format!("of a two-way label {} more", with_comma(model::MARK)));
+}
+
+/// Section 5: the small drawing with its first node fixed to an object, and the rows of each.
+fn fixed_nodes(tally: &mut Tally) {
+    let feed = words(tally, "small-feed", 1);
+    for row in table("### A fixed node") {
+        let (drawing, rows) = (numbers(row[1].trim_matches('`')), numbers(row[2].trim_matches('`')));
+        tally.same("the manual's fixed object", &row[0].split(',').next(), &Some(&*drawing[4].to_string()), &drawing);
+        let list = model::translate(&model::read_drawing(&drawing)).list;
+        let case = Case { feed: feed.clone(), drawing, list, ..Case::default() };
+        answers(tally, &format!("the manual's node fixed to {}", row[0]), &case, &rows);
+    }
 }
 
 /// The table of kinds: instruction i has kind i, register i holds what is printed, and its words are of the sort that is named.
@@ -255,9 +267,9 @@ fn kinds(tally: &mut Tally) {
     }
 }
 
-/// Section 7: translations with an inverse, and with composed paths.
+/// Section 7: translations with an inverse, with composed paths, and with a fixed node.
 fn reductions(tally: &mut Tally) {
-    for name in ["opposite", "crossed"] {
+    for name in ["opposite", "crossed", "fixed"] {
         let [feed, drawing, list, rows] = ["feed", "drawing", "list", "rows"].map(|first| line_of(name, first));
         answers(tally, &format!("the manual's {name}"), &Case { feed, drawing, list, ..Case::default() }, &rows);
     }
@@ -374,6 +386,7 @@ fn leaves_so(tally: &mut Tally, call: &str, row: &[&str], case: &Case, left: &Le
 pub fn examples(tally: &mut Tally) {
     small(tally);
     touching(tally);
+    fixed_nodes(tally);
     kinds(tally);
     reductions(tally);
     whole_sample(tally);

@@ -1,7 +1,7 @@
 //! The manual's table of limits: each is met, and passed by one (or by as little as there is) with the refusal that is named.
 
 use crate::manual::{self, ask, file, listing, pages, says, Case};
-use crate::model::MARK;
+use crate::model::{ANY, MARK};
 use crate::Tally;
 
 /// Words in a row.
@@ -59,22 +59,22 @@ fn number_of(text: &str) -> u32 {
 
 /// A sheet of these class lines and node lines, without labels and edges.
 fn sheet(classes: &str, nodes: &str) -> String {
-    format!("class object\n{classes}\nlabel from to\n\nnode class pick\n{nodes}\nedge source target\n")
+    format!("class object\n{classes}\nlabel from to\n\nnode class pick fixed\n{nodes}\nedge source target\n")
 }
 
 /// Classes of so many objects, and picked nodes of these classes.
 fn crossed(sizes: &[u32], nodes: &[usize]) -> String {
     let letter = |k: usize| (b'a' + k as u8) as char;
     let lines = sizes.iter().enumerate().flat_map(|(k, &n)| (0..n).map(move |i| format!("{} {i}\n", letter(k))));
-    let nodes = nodes.iter().enumerate().map(|(k, &class)| format!("{} {} 1\n", letter(k), letter(class)));
+    let nodes = nodes.iter().enumerate().map(|(k, &class)| format!("{} {} 1 -\n", letter(k), letter(class)));
     sheet(&lines.collect::<String>(), &nodes.collect::<String>())
 }
 
 /// An accepted sheet of n bytes: lines of 8 bytes, and a longer name for what is left.
 fn bytes(n: usize) -> u32 {
-    let rest = n.saturating_sub(sheet("", "x a 1\n").len());
+    let rest = n.saturating_sub(sheet("", "x a 1 -\n").len());
     let lines: String = (0..rest / 8).map(|i| format!("a {}\n", 10_000 + i)).collect();
-    let whole = sheet(&lines, &format!("{} a 1\n", "x".repeat(1 + rest % 8)));
+    let whole = sheet(&lines, &format!("{} a 1 -\n", "x".repeat(1 + rest % 8)));
     assert_eq!(whole.len(), n);
     listed(whole)
 }
@@ -101,7 +101,7 @@ fn paged(n: u32) -> u32 {
 /// A sheet whose label has a name of n letters and a star.
 fn starred(n: usize) -> u32 {
     let label = "l".repeat(n);
-    listed(format!("class object\na 1\n\nlabel from to\n{label}* 1 1\n\nnode class pick\nx a 1\n\nedge source target\n{label}* x x\n"))
+    listed(format!("class object\na 1\n\nlabel from to\n{label}* 1 1\n\nnode class pick fixed\nx a 1 -\n\nedge source target\n{label}* x x\n"))
 }
 
 // ---- the table
@@ -123,15 +123,16 @@ fn probe(limit: &str, n: u32) -> u32 {
             common(feed(counted(1, 0, &[n])), feed(label))
         }
         "an object" => feed(vec![1, 0, 1, n, n]),
-        "nodes of a drawing" => drawing([vec![n, 0], repeated(&[0, 1], n)].concat()),
-        "edges of a drawing" => drawing([vec![1, n, 0, 1], repeated(&[0, 0, 0], n)].concat()),
+        "nodes of a drawing" => drawing([vec![n, 0], repeated(&[0, 1, ANY], n)].concat()),
+        "edges of a drawing" => drawing([vec![1, n, 0, 1, ANY], repeated(&[0, 0, 0], n)].concat()),
+        "the third word of a node" => drawing(vec![1, 0, 0, 1, n]),
         "instructions of a list" => list(vec![1, 0, 0], repeated(&[0, 0, 0], n)),
         "pairs of a register" => register(n),
         "bytes of a sheet" => bytes(n as usize),
         "letters of a name, without a star" => {
-            common(listed(sheet("a 1\n", &format!("{} a 1\n", "x".repeat(n as usize)))), starred(n as usize))
+            common(listed(sheet("a 1\n", &format!("{} a 1 -\n", "x".repeat(n as usize)))), starred(n as usize))
         }
-        "digits of a number" => listed(sheet(&format!("a 1{}\n", "0".repeat(n as usize - 1)), "x a 1\n")),
+        "digits of a number" => listed(sheet(&format!("a 1{}\n", "0".repeat(n as usize - 1)), "x a 1 -\n")),
         "pairs of a sheet's registers together" => pairs(n),
         "row words of a sheet" => row_words(n),
         "columns of a page, one for each picked node" => paged(n),
@@ -140,13 +141,14 @@ fn probe(limit: &str, n: u32) -> u32 {
 }
 
 /// Where else the manual names a limit of the table.
-const SENTENCES: [(&str, &[&str]); 14] = [
+const SENTENCES: [(&str, &[&str]); 15] = [
     ("classes of a feed", &["C, the number of classes, 0 to {}", "a line past {} classes,", "| C over {} |"]),
     ("labels of a feed", &["L, the number of labels, 0 to {}", "classes, {} labels,", "| L over {} |"]),
     ("pairs of a table, as stored", &["how many pairs each table has, 0 to {}:", "a count over {} |", "a two-way label over {}, without its mark"]),
     ("an object", &["each a number from 0 to {}.", "No value is above {}.", "a value above {}, left"]),
     ("nodes of a drawing", &["n, the number of nodes, 1 to {}", "labels, {} nodes", "n not 1 to {},"]),
     ("edges of a drawing", &["e, the number of edges, 0 to {}", "nodes or {} edges", "or e over {} |"]),
+    ("the third word of a node", &["or {} (`MATCHER_ANY_OBJECT`) where it may be any", "a fixed object above {} |"]),
     ("instructions of a list", &["A list is 1 to {} instructions", "no instruction, or over {} |"]),
     ("pairs of a register", &["a register of more than {} pairs"]),
     ("bytes of a sheet", &["At most {} bytes.", "A sheet of more than {} bytes is 14 at place 0", "| a sheet of more than {} bytes |"]),
@@ -174,7 +176,7 @@ pub fn table(tally: &mut Tally) {
     // what no probe can show is at least the header's number, too
     let header = file("include/matcher.h").replace(',', "");
     let numbers = [
-        ("No translation has more than", "864", "instructions"),
+        ("No translation has more than", "876", "instructions"),
         ("No listing has more than", "24,732", "bytes"),
         ("No listing is longer than", "24,732", "bytes"),
         ("No pages have more than", "281,160", "bytes"),

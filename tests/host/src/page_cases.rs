@@ -1,7 +1,7 @@
 //! Random sheets for pages: so many rows, picks and letters in a name; and sheets at the sizes of the run and of the rows, with more picks.
 
 use crate::random::Random;
-use crate::sheet_cases::{self, Plan, Sheet};
+use crate::sheet_cases::{self, free, Plan, Sheet};
 use std::collections::BTreeSet;
 
 /// Rows at the turn of a page.
@@ -26,7 +26,7 @@ fn shuffled<T>(r: &mut Random, mut all: Vec<T>) -> Vec<T> {
 
 /// One node, a class of so many objects.
 fn class(r: &mut Random, rows: usize) -> Plan {
-    Plan { classes: vec![objects(r, rows)], nodes: vec![(0, 1)], ..Plan::default() }
+    Plan { classes: vec![objects(r, rows)], nodes: vec![free(0, 1)], ..Plan::default() }
 }
 
 /// Two nodes and an edge between them, of a label with so many pairs; now and then two-way, with the pairs turned. The lefts are all different, so
@@ -42,7 +42,7 @@ fn pairs(r: &mut Random, rows: usize, both: bool) -> Plan {
         classes: vec![sources, targets.into_iter().collect()],
         labels: vec![label],
         two_way: if two_way { [0].into() } else { BTreeSet::new() },
-        nodes: vec![(0, 1), (1, both as u32)],
+        nodes: vec![free(0, 1), free(1, both as u32)],
         edges: vec![[0, 0, 1]],
     }
 }
@@ -51,14 +51,14 @@ fn pairs(r: &mut Random, rows: usize, both: bool) -> Plan {
 fn product(r: &mut Random, rows: usize) -> Plan {
     let divisors: Vec<usize> = (1..=rows).filter(|a| rows % a == 0).collect();
     let a = divisors[r.below(divisors.len())];
-    Plan { classes: vec![objects(r, a), objects(r, rows / a)], nodes: vec![(0, 1), (1, 1)], ..Plan::default() }
+    Plan { classes: vec![objects(r, a), objects(r, rows / a)], nodes: vec![free(0, 1), free(1, 1)], ..Plan::default() }
 }
 
 /// A node with an edge to itself that nothing meets.
 fn nothing(r: &mut Random) -> Plan {
     let all: Vec<u32> = objects(r, 4).into_iter().collect();
     let labels = vec![[(all[0], all[1]), (all[2], all[3])].into()];
-    Plan { classes: vec![all.into_iter().collect()], labels, nodes: vec![(0, 1)], edges: vec![[0, 0, 0]], ..Plan::default() }
+    Plan { classes: vec![all.into_iter().collect()], labels, nodes: vec![free(0, 1)], edges: vec![[0, 0, 0]], ..Plan::default() }
 }
 
 /// Nodes more, each of a class with one object: the rows stay as many.
@@ -66,9 +66,9 @@ fn add_nodes(r: &mut Random, plan: &mut Plan, picks: usize) {
     plan.classes.push(objects(r, 1));
     let single = plan.classes.len() - 1;
     let picked = plan.nodes.iter().filter(|node| node.1 == 1).count();
-    plan.nodes.extend((picked..picks).map(|_| (single, 1)));
+    plan.nodes.extend((picked..picks).map(|_| free(single, 1)));
     if r.one_in(4) {
-        plan.nodes.push((single, 0));
+        plan.nodes.push(free(single, 0));
     }
 }
 

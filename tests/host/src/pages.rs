@@ -121,10 +121,10 @@ const NUMBERS: [usize; 10] = [0, 3, 5, 6, 7, 10, 11, 12, 14, 15];
 
 /// A class a of one object and a class b of two, and these node lines.
 fn drawn(nodes: &str) -> Vec<u8> {
-    format!("class object\na 7\nb 8\nb 9\n\nlabel from to\n\nnode class pick\n{nodes}\nedge source target\n").into_bytes()
+    format!("class object\na 7\nb 8\nb 9\n\nlabel from to\n\nnode class pick fixed\n{nodes}\nedge source target\n").into_bytes()
 }
 
-const SIX: &str = "u a 1\nv a 1\nw a 1\nx a 1\ny a 1\nz b 1\n";
+const SIX: &str = "u a 1 -\nv a 1 -\nw a 1 -\nx a 1 -\ny a 1 -\nz b 1 -\n";
 
 /// Sheets with their verdicts in an ample page buffer: 15 just after 7, and before 10, 11 and 12.
 pub fn in_order() -> Vec<(&'static str, Vec<u8>, Verdict)> {
@@ -132,13 +132,16 @@ pub fn in_order() -> Vec<(&'static str, Vec<u8>, Verdict)> {
     vec![
         ("five picks", replaced("u a 1", "u a 0"), ACCEPTED),
         ("six picks", drawn(SIX), (15, 0)),
-        ("six picks and a node without", drawn(&format!("t b 0\n{SIX}")), (15, 0)),
-        ("twelve picks", drawn(&"uvwxyz".chars().chain("abcdef".chars()).map(|name| format!("{name} b 1\n")).collect::<String>()), (15, 0)),
-        ("six picks and a pick of 2", drawn(&format!("{SIX}t a 2\n")), (6, 15)),
-        ("a pick of 2 and six picks", drawn(&format!("t a 2\n{SIX}")), (6, 3)),
+        ("six picks and a node without", drawn(&format!("t b 0 -\n{SIX}")), (15, 0)),
+        ("twelve picks", drawn(&"uvwxyz".chars().chain("abcdef".chars()).map(|name| format!("{name} b 1 -\n")).collect::<String>()), (15, 0)),
+        ("six picks and a pick of 2", drawn(&format!("{SIX}t a 2 -\n")), (6, 21)),
+        ("a pick of 2 and six picks", drawn(&format!("t a 2 -\n{SIX}")), (6, 3)),
+        ("six picks and a fixed object of 65537", replaced("z b 1 -", "z b 1 65537"), (6, 19)),
+        ("five picks and a node fixed to an object", replaced("u a 1 -", "u a 0 7"), ACCEPTED),
+        ("six picks and a node fixed to an object", replaced("u a 1 -", "u a 1 7"), (15, 0)),
         ("six picks and a breach before them", replaced("a 7", "a 07"), (14, 2)),
         ("six picks and a breach behind them", replaced("edge source target\n", "edge source target\n\n"), (14, 17)),
-        ("six picks and an unknown class", drawn(&format!("{SIX}t c 1\n")), (14, 15)),
+        ("six picks and an unknown class", drawn(&format!("{SIX}t c 1 -\n")), (14, 15)),
         ("six picks and objects that descend", replaced("b 8\nb 9", "b 9\nb 8"), (3, 8)),
         ("six picks and an object over 65,535", replaced("a 7", "a 65536"), (3, 4)),
         ("no pick", drawn(&SIX.replace('1', "0")), (7, 0)),
@@ -156,13 +159,13 @@ pub fn in_order() -> Vec<(&'static str, Vec<u8>, Verdict)> {
 /// Sheets with their pages, printed by hand: no rows; the widest names and numbers; the example of the repository, and one with two pages.
 const PRINTED: [(&str, &str); 4] = [
     (
-        "class object\na 1\n\nlabel from to\nl 2 2\n\nnode class pick\nx a 1\n\nedge source target\nl x x\n",
+        "class object\na 1\n\nlabel from to\nl 2 2\n\nnode class pick fixed\nx a 1 -\n\nedge source target\nl x x\n",
         "            x                                                    \n\
          \x20                                                          page 1\n",
     ),
     (
-        "class object\na 65535\nb 0\n\nlabel from to\n\nnode class pick\nabcdefghijkl a 1\nbcdefghijklm b 1\npage a 1\nd b 0\n\
-         cdefghijklmn a 1\nrefused b 1\n\nedge source target\n",
+        "class object\na 65535\nb 0\n\nlabel from to\n\nnode class pick fixed\nabcdefghijkl a 1 -\nbcdefghijklm b 1 -\npage a 1 -\nd b 0 -\n\
+         cdefghijklmn a 1 -\nrefused b 1 -\n\nedge source target\n",
         " abcdefghijkl bcdefghijklm         page cdefghijklmn      refused\n\
          \x20       65535            0        65535        65535            0\n\
          \x20                                                          page 1\n",
@@ -191,7 +194,7 @@ pub fn named(tally: &mut Tally) {
 // ---- page buffers of every length, and the longest pages
 
 pub fn every_length(tally: &mut Tally) {
-    let mut sheets: Vec<Vec<u8>> = in_order().into_iter().take(14).map(|case| case.1).collect();
+    let mut sheets: Vec<Vec<u8>> = in_order().into_iter().take(17).map(|case| case.1).collect();
     sheets.extend(PRINTED.map(|(sheet, _)| sheet.as_bytes().to_vec()));
     let mut calls = 0;
     for sheet in &sheets {

@@ -2,7 +2,8 @@
 
 use crate::cases;
 use crate::checks::Causes;
-use crate::model::{self, Answer, Drawing, Feed, Label, Plan, Verdict};
+use crate::examples;
+use crate::model::{self, Answer, Drawing, Feed, Label, Node, Plan, Verdict, ANY};
 use crate::random::Random;
 use crate::search;
 use crate::{said, Tally};
@@ -111,7 +112,7 @@ impl Met {
 }
 
 /// What an accepted case shows.
-fn features(feed: &Feed, drawing: &Drawing, plan: &Plan) -> [(&'static str, bool); 14] {
+fn features(feed: &Feed, drawing: &Drawing, plan: &Plan) -> [(&'static str, bool); 22] {
     let two = |test: &dyn Fn(usize, usize, usize, usize) -> bool| {
         let edges = &drawing.edges;
         (0..edges.len()).any(|i| (0..i).any(|j| test(edges[i].1, edges[i].2, edges[j].1, edges[j].2)))
@@ -120,6 +121,8 @@ fn features(feed: &Feed, drawing: &Drawing, plan: &Plan) -> [(&'static str, bool
     let picks = plan.translation.paths.len();
     let two_way = || drawing.edges.iter().map(|edge| &feed.labels[edge.0]).filter(|label| label.two_way);
     let both = |label: &Label| label.stored.iter().any(|&(u, v)| u != v && label.stored.contains(&(v, u)));
+    let fixed: Vec<(usize, u32)> = drawing.nodes.iter().enumerate().filter_map(|(k, node)| Some((k, node.fixed?))).collect();
+    let inside = |&(k, object): &(usize, u32)| feed.classes[drawing.nodes[k].class].contains(&(object, object));
     [
         ("loop", steps[0] > 0),
         ("parallel edges", two(&|s, t, u, v| s != t && s == u && t == v)),
@@ -127,7 +130,7 @@ fn features(feed: &Feed, drawing: &Drawing, plan: &Plan) -> [(&'static str, bool
         ("unpicked chain", steps[2] > 0),
         ("joined nodes", steps[3] > 0),
         ("unconnected", steps[4] > 0),
-        ("empty class", drawing.nodes.iter().any(|n| feed.classes[n.0].is_empty())),
+        ("empty class", drawing.nodes.iter().any(|n| feed.classes[n.class].is_empty())),
         ("12 nodes", drawing.nodes.len() == 12),
         ("24 edges", drawing.edges.len() == 24),
         ("no row", plan.rows.is_empty()),
@@ -135,6 +138,14 @@ fn features(feed: &Feed, drawing: &Drawing, plan: &Plan) -> [(&'static str, bool
         ("several rows", plan.rows.len() > picks),
         ("two-way edge", two_way().next().is_some()),
         ("two-way edge, both directions stored", two_way().any(both)),
+        ("fixed node, and rows", !fixed.is_empty() && !plan.rows.is_empty()),
+        ("fixed node, not picked", fixed.iter().any(|&(k, _)| !drawing.nodes[k].picked)),
+        ("all nodes fixed, and rows", fixed.len() == drawing.nodes.len() && !plan.rows.is_empty()),
+        ("fixed outside its class", !fixed.iter().all(inside)),
+        ("fixed to 65,535", fixed.iter().any(|&(_, object)| object == 65_535)),
+        ("fixed to 65,535, in its class", fixed.iter().any(|at| at.1 == 65_535 && inside(at))),
+        ("two nodes fixed to one object", (0..fixed.len()).any(|i| fixed[..i].iter().any(|at| at.1 == fixed[i].1))),
+        ("loop at a fixed node", drawing.edges.iter().any(|&(_, s, t)| s == t && drawing.nodes[s].fixed.is_some())),
     ]
 }
 
@@ -142,6 +153,12 @@ fn features(feed: &Feed, drawing: &Drawing, plan: &Plan) -> [(&'static str, bool
 fn one_way(feed: &Feed) -> Feed {
     let label = |label: &Label| Label { stored: label.stored.clone(), two_way: false };
     Feed { classes: feed.classes.clone(), labels: feed.labels.iter().map(label).collect() }
+}
+
+/// The same drawing, no node of it fixed.
+fn unfixed(drawing: &Drawing) -> Drawing {
+    let node = |node: &Node| Node { fixed: None, ..node.clone() };
+    Drawing { nodes: drawing.nodes.iter().map(node).collect(), edges: drawing.edges.clone() }
 }
 
 /// The rows of an accepted case against the search, and the search against every choice where these are few.
@@ -155,6 +172,9 @@ fn compare_rows(tally: &mut Tally, met: &mut Met, feed: &[u32], drawing: &[u32],
     met.searched += 1;
     let backwards = search::rows(&one_way(&f), &d, 200_000).is_some_and(|rows| rows != found);
     *met.features.entry("rows by a pair met backwards").or_default() += backwards as usize;
+    let fixed = !found.is_empty() && d.nodes.iter().any(|node| node.fixed.is_some());
+    let fewer = fixed && search::rows(&f, &unfixed(&d), 200_000).is_some_and(|rows| rows != found);
+    *met.features.entry("fewer rows by a fixed object").or_default() += fewer as usize;
     let words: Vec<u32> = found.iter().flatten().copied().collect();
     tally.same("rows of the embeddings", &plan.rows, &words, &[feed, drawing].concat());
     if search::choices(&f, &d) <= 200 {
@@ -254,7 +274,7 @@ fn small(tally: &mut Tally, met: &mut Met, cases: usize) {
         }
         match i % 32 {
             1 | 3 => cases::damage(&mut r, &mut drawing),
-            2 | 4 => drawing.iter_mut().skip(3).step_by(2).for_each(|pick| *pick = 0),
+            2 | 4 => cases::unpick(&mut drawing),
             _ => {}
         }
         met.causes.note(model::check_drawing(&feed, &valid.1).0, model::check_drawing(&valid.0, &drawing).0);
@@ -284,11 +304,12 @@ fn chains(tally: &mut Tally, met: &mut Met, cases: usize) {
             _ => {}
         }
         let mut drawing = vec![12, edges.len() as u32];
-        drawing.extend((0..12).flat_map(|k| [r.below(3) as u32, (k == 0 || k == 11 && i % 3 > 0) as u32]));
+        drawing.extend((0..12).flat_map(|k| [r.below(3) as u32, (k == 0 || k == 11 && i % 3 > 0) as u32, ANY]));
         for [s, t] in edges {
             let (s, t) = if r.one_in(2) { (s, t) } else { (t, s) };
             drawing.extend([r.below(2) as u32, s, t]);
         }
+        cases::fix_some(&mut r, &feed, &mut drawing);
         compare(tally, met, &mut r, &feed, &drawing, 40_000);
     }
 }
@@ -299,8 +320,9 @@ fn dense(tally: &mut Tally, met: &mut Met, cases: usize) {
     for _ in 0..cases {
         let feed = tiny(&mut r);
         let mut drawing = vec![12, 24];
-        drawing.extend((0..12).flat_map(|_| [r.below(3) as u32, 1]));
+        drawing.extend((0..12).flat_map(|_| [r.below(3) as u32, 1, ANY]));
         drawing.extend((0..24).flat_map(|_| [r.below(2) as u32, r.below(12) as u32, r.below(12) as u32]));
+        cases::fix_some(&mut r, &feed, &mut drawing);
         compare(tally, met, &mut r, &feed, &drawing, 40_000);
     }
 }
@@ -311,7 +333,8 @@ fn products(tally: &mut Tally, met: &mut Met, cases: usize) {
     for i in 0..cases {
         let feed = tiny(&mut r);
         let mut drawing = vec![12, 0];
-        drawing.extend((0..12).flat_map(|k| [r.below(3) as u32, (i % 2 == 0 || k == 5) as u32]));
+        drawing.extend((0..12).flat_map(|k| [r.below(3) as u32, (i % 2 == 0 || k == 5) as u32, ANY]));
+        cases::fix_some(&mut r, &feed, &mut drawing);
         compare(tally, met, &mut r, &feed, &drawing, 200_000);
     }
 }
@@ -325,7 +348,7 @@ fn growing(tally: &mut Tally, met: &mut Met, cases: usize) {
         let feed = cases::feed_of(&[cases::class(0, objects)], &[any]);
         let edges = if i % 4 < 2 { 0 } else { 11 };
         let mut drawing = vec![12, edges];
-        drawing.extend([0, 1].repeat(12));
+        drawing.extend([0, 1, ANY].repeat(12));
         drawing.extend((0..edges).flat_map(|k| [0, k, k + 1]));
         compare(tally, met, &mut r, &feed, &drawing, 1_000_000);
     }
@@ -339,7 +362,9 @@ fn beyond(tally: &mut Tally, met: &mut Met, cases: usize) {
         let b = 65_536 / a + i % 2;
         let (spread, gather) = ((0..b as u32).map(|v| (0, v)).collect(), (0..a as u32).map(|u| (u, 0)).collect());
         let feed = cases::feed_of(&[cases::class(0, a as u32), cases::class(0, b as u32)], &[gather, spread]);
-        let drawing = if i % 4 < 2 { vec![2, 0, 0, 1, 1, 1] } else { vec![3, 2, 0, 1, 0, 0, 1, 1, 0, 0, 1, 1, 1, 2] };
+        let two = || examples::drawing(&[(0, 1), (1, 1)], &[]);
+        let chain = || examples::drawing(&[(0, 1), (0, 0), (1, 1)], &[(0, 0, 1), (1, 1, 2)]);
+        let drawing = if i % 4 < 2 { two() } else { chain() };
         compare(tally, met, &mut r, &feed, &drawing, 1_000_000);
     }
 }

@@ -82,7 +82,7 @@ fn drawn(tally: &mut Tally, met: &mut Met, r: &mut Random) {
     match r.below(12) {
         0 => cases::damage(r, &mut feed),
         1 => cases::damage(r, &mut drawing),
-        2 => drawing.iter_mut().skip(3).step_by(2).for_each(|pick| *pick = 0),
+        2 => cases::unpick(&mut drawing),
         _ => {}
     }
     compare(tally, met, "raw check_feed", check_feed(&feed), (model::check_feed(&feed), None), &feed);

@@ -2,6 +2,7 @@
 
 use crate::cases;
 use crate::checks::{twice_damaged, Causes};
+use crate::examples;
 use crate::model;
 use crate::random::Random;
 use crate::{said, Tally};
@@ -284,7 +285,7 @@ pub fn belt(tally: &mut Tally) {
 
     // the sheet of document 01: its translation, and the registers of that
     let feed = [1, 1, 4, 3, 1, 1, 2, 2, 3, 3, 4, 4, 1, 2, 2, 3, 3, 4];
-    let drawing = [3, 2, 0, 1, 0, 0, 0, 1, 0, 0, 1, 0, 1, 2];
+    let drawing = examples::drawing(&[(0, 1), (0, 0), (0, 1)], &[(0, 0, 1), (0, 1, 2)]);
     let list = model::translate(&model::read_drawing(&drawing)).list;
     tally.same("the sheet has 12 instructions", &(list.len() / 3), &12, &list);
     let tables = model::tables(&model::read_feed(&feed), &list);

@@ -1,7 +1,8 @@
 //! Random sheets: valid ones, those whose feed or drawing is refused, and the same with damaged bytes. Stars that are misplaced are in
-//! `stars.rs`.
+//! `stars.rs`, dashes and what else a node's fourth field may not be in `dashes.rs`.
 
 use crate::cases;
+use crate::model::ANY;
 use crate::random::Random;
 use crate::sheet_model::{MOST_BYTES, NAME_LINES};
 use std::collections::BTreeSet;
@@ -62,10 +63,15 @@ pub struct Plan {
     pub labels: Vec<BTreeSet<(u32, u32)>>,
     /// the labels with a star
     pub two_way: BTreeSet<usize>,
-    /// class, pick
-    pub nodes: Vec<(usize, u32)>,
+    /// class, pick, fixed
+    pub nodes: Vec<(usize, u32, u32)>,
     /// label, source, target
     pub edges: Vec<[usize; 3]>,
+}
+
+/// A node of a class that may be any object of it.
+pub fn free(class: usize, pick: u32) -> (usize, u32, u32) {
+    (class, pick, ANY)
 }
 
 /// The lines of some tables: table by table, or mixed with the order kept within each.
@@ -85,6 +91,12 @@ fn mixed(r: &mut Random, tables: Vec<Vec<Vec<String>>>) -> Vec<Vec<String>> {
     lines
 }
 
+/// A node's line. Any object is mostly a dash.
+fn node_line(r: &mut Random, names: [&String; 2], pick: u32, fixed: u32) -> Vec<String> {
+    let fixed = if fixed == ANY && !r.one_in(8) { "-".to_string() } else { fixed.to_string() };
+    vec![names[0].clone(), names[1].clone(), pick.to_string(), fixed]
+}
+
 /// The sheet that says it, with names of its own.
 pub fn written(r: &mut Random, plan: &Plan) -> Sheet {
     let (classes, labels, nodes) = (names(r, plan.classes.len()), names(r, plan.labels.len()), names(r, plan.nodes.len()));
@@ -96,7 +108,7 @@ pub fn written(r: &mut Random, plan: &Plan) -> Sheet {
     let sections = [
         mixed(r, class_lines.collect()),
         mixed(r, label_lines.collect()),
-        nodes.iter().zip(&plan.nodes).map(|(name, &(class, pick))| vec![name.clone(), classes[class].clone(), pick.to_string()]).collect(),
+        nodes.iter().zip(&plan.nodes).map(|(name, &(class, pick, fixed))| node_line(r, [name, &classes[class]], pick, fixed)).collect(),
         plan.edges.iter().map(|&[l, s, t]| vec![labels[l].clone(), nodes[s].clone(), nodes[t].clone()]).collect(),
     ];
     Sheet { sections }
@@ -134,21 +146,37 @@ fn plan(r: &mut Random, objects: &[u32], [classes, labels, nodes, edges]: [usize
     plan.two_way = two_way(r, labels);
     let often = 1 + r.below(4);
     let picked = r.below(nodes);
-    plan.nodes = (0..nodes).map(|k| (r.below(classes), (k == picked || r.one_in(often)) as u32)).collect();
+    plan.nodes = (0..nodes).map(|k| free(r.below(classes), (k == picked || r.one_in(often)) as u32)).collect();
     let edges = if labels == 0 { 0 } else { edges };
     plan.edges = (0..edges).map(|_| [r.below(labels), r.below(nodes), r.below(nodes)]).collect();
+    let at: Vec<u32> = (0..nodes).map(|_| any(r)).collect();
     // mostly there is an embedding, for each node gets an object
     if !r.one_in(4) {
-        let at: Vec<u32> = (0..nodes).map(|_| any(r)).collect();
-        for (&(class, _), &object) in plan.nodes.iter().zip(&at) {
-            plan.classes[class].insert(object);
-        }
-        for &[label, s, t] in &plan.edges {
-            let turned = plan.two_way.contains(&label) && r.one_in(2);
-            plan.labels[label].insert(if turned { (at[t], at[s]) } else { (at[s], at[t]) });
+        embed(r, &mut plan, &at);
+    }
+    fix(r, &mut plan, &at);
+    plan
+}
+
+/// Puts what these objects need into the tables.
+fn embed(r: &mut Random, plan: &mut Plan, at: &[u32]) {
+    for (node, &object) in plan.nodes.iter().zip(at) {
+        plan.classes[node.0].insert(object);
+    }
+    for &[label, s, t] in &plan.edges {
+        let turned = plan.two_way.contains(&label) && r.one_in(2);
+        plan.labels[label].insert(if turned { (at[t], at[s]) } else { (at[s], at[t]) });
+    }
+}
+
+/// Fixes some nodes of every other plan, or all, mostly to these objects.
+fn fix(r: &mut Random, plan: &mut Plan, at: &[u32]) {
+    let often = if r.one_in(2) { 0 } else { 1 + r.below(4) };
+    for (node, &object) in plan.nodes.iter_mut().zip(at) {
+        if often > 0 && r.one_in(often) {
+            node.2 = cases::fixed(r, &[object]);
         }
     }
-    plan
 }
 
 /// Few tables, nodes and edges.
@@ -186,7 +214,7 @@ pub fn product(r: &mut Random, pairs: usize, from: usize) -> Plan {
     let a = from + r.below(60);
     let b = (pairs / a + r.below(4)).saturating_sub(1);
     let classes = vec![class(r, a), class(r, b)];
-    let nodes = vec![(0, 1), (1, r.below(2) as u32)];
+    let nodes = vec![free(0, 1), free(1, r.below(2) as u32)];
     Plan { classes, nodes, ..Plan::default() }
 }
 
@@ -198,7 +226,7 @@ pub fn hub(r: &mut Random, pairs: usize, from: usize) -> Plan {
     let middle = r.below(65_536) as u32;
     let labels = vec![left.iter().map(|&u| (u, middle)).collect(), right.iter().map(|&v| (middle, v)).collect()];
     let classes = vec![left, [middle].into(), right];
-    Plan { classes, labels, two_way: two_way(r, 2), nodes: vec![(0, 1), (1, 0), (2, 1)], edges: vec![[0, 0, 1], [1, 1, 2]] }
+    Plan { classes, labels, two_way: two_way(r, 2), nodes: vec![free(0, 1), free(1, 0), free(2, 1)], edges: vec![[0, 0, 1], [1, 1, 2]] }
 }
 
 /// Unconnected nodes whose rows take about 4,096 words.
@@ -209,7 +237,7 @@ pub fn rows(r: &mut Random) -> Plan {
     let classes = vec![class(r, 1), class(r, a), class(r, b), class(r, last)];
     let mut of = vec![0; nodes - 3];
     of.extend([1, 2, 3]);
-    Plan { classes, nodes: of.into_iter().map(|class| (class, 1)).collect(), ..Plan::default() }
+    Plan { classes, nodes: of.into_iter().map(|class| free(class, 1)).collect(), ..Plan::default() }
 }
 
 /// A sheet of so many bytes, by class lines of two more classes.
@@ -256,7 +284,7 @@ pub fn sheet(r: &mut Random) -> Sheet {
 
 // ---- sheets that read well and are refused later
 
-pub const CAUSES: usize = 6;
+pub const CAUSES: usize = 7;
 
 /// A cause of one sort put into a sheet, where it has lines for it.
 pub fn cause(r: &mut Random, sheet: &mut Sheet, sort: usize) {
@@ -277,13 +305,17 @@ pub fn cause(r: &mut Random, sheet: &mut Sheet, sort: usize) {
             let (a, b) = (r.below(tables.len()), r.below(tables.len()));
             tables.swap(a, b);
         }
-        // a pick over 1, no pick, no node
+        // a pick over 1, a fixed object over 65,536, no pick, no node
         3 if !nodes.is_empty() => {
             let at = r.below(nodes.len());
             nodes[at][2] = [2, 10, 99_999][r.below(3)].to_string();
         }
-        4 => nodes.iter_mut().for_each(|node| node[2] = "0".to_string()),
-        5 => {
+        4 if !nodes.is_empty() => {
+            let at = r.below(nodes.len());
+            nodes[at][3] = [65_537, 99_999, 65_537 + r.below(34_463)][r.below(3)].to_string();
+        }
+        5 => nodes.iter_mut().for_each(|node| node[2] = "0".to_string()),
+        6 => {
             nodes.clear();
             edges.clear();
         }
@@ -317,7 +349,7 @@ pub const DAMAGES: [&str; 20] = [
 ];
 
 /// Bytes that mean something, and their neighbours.
-pub const NEAR: &[u8] = b"\0\t\n\x0b\r\x1f !)**+/0159:@AZ`abmyz{\x7f\x80\x8a\xff";
+pub const NEAR: &[u8] = b"\0\t\n\x0b\r\x1f !)**+,--./0159:@AZ`abmyz{\x7f\x80\x8a\xff";
 
 fn byte(r: &mut Random) -> u8 {
     if r.one_in(4) { r.next() as u8 } else { NEAR[r.below(NEAR.len())] }

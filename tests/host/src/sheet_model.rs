@@ -1,11 +1,12 @@
 //! Document 01's sheet read a second time, in plain Rust and on its own: bytes to the words of a feed and of a drawing, or 14 with its line;
-//! then the model's query, and the listing. A star behind a label's name says that the label is two-way (document 02, E1).
+//! then the model's query, and the listing. A star behind a label's name says that the label is two-way (document 02, E1), a dash in a node's
+//! fourth field that it may be any object (E4).
 
 use crate::model::{self, Verdict, ACCEPTED};
 use crate::search;
 
 pub const MOST_BYTES: usize = 16_384;
-pub const NAME_LINES: [&str; 4] = ["class object", "label from to", "node class pick", "edge source target"];
+pub const NAME_LINES: [&str; 4] = ["class object", "label from to", "node class pick fixed", "edge source target"];
 
 /// Why a sheet gives 14.
 #[derive(Clone, Copy, Debug)]
@@ -25,6 +26,8 @@ pub enum Breach {
     UnknownLabel,
     UnknownNode,
     DoubledNode,
+    /// a fourth field of a node that is neither a dash nor a number
+    Fixed,
     /// "A label both with and without its star"
     Star,
     ManyClasses,
@@ -35,9 +38,9 @@ pub enum Breach {
 
 use Breach::*;
 
-pub const BREACHES: [Breach; 17] = [
-    TooLong, Missing, Unended, Empty, NameLine, FieldCount, Name, Number, UnknownClass, UnknownLabel, UnknownNode, DoubledNode, Star, ManyClasses,
-    ManyLabels, ManyNodes, ManyEdges,
+pub const BREACHES: [Breach; 18] = [
+    TooLong, Missing, Unended, Empty, NameLine, FieldCount, Name, Number, UnknownClass, UnknownLabel, UnknownNode, DoubledNode, Fixed, Star,
+    ManyClasses, ManyLabels, ManyNodes, ManyEdges,
 ];
 
 /// A class or a label: its name, without its star; whether it has one; the pairs of its lines.
@@ -52,8 +55,8 @@ pub struct Sheet {
     /// both by first appearance
     classes: Vec<Table>,
     labels: Vec<Table>,
-    /// name, number of the class, pick
-    nodes: Vec<(Vec<u8>, u32, u32)>,
+    /// name; number of the class, pick, fixed object
+    nodes: Vec<(Vec<u8>, [u32; 3])>,
     /// numbers of the label, the source and the target
     edges: Vec<[u32; 3]>,
 }
@@ -115,6 +118,11 @@ fn number(field: &[u8]) -> Result<u32, Breach> {
     if value <= 99_999 && value.to_string().as_bytes() == field { Ok(value) } else { Err(Number) }
 }
 
+/// The fixed object of a node: "with `-` or 65536 for any" (document 02, E4).
+fn number_or_dash(field: &[u8]) -> Result<u32, Breach> {
+    if field == b"-" { Ok(model::ANY) } else { number(field).map_err(|_| Fixed) }
+}
+
 /// The number of the one with this name.
 fn place<T>(all: &[T], name: impl Fn(&T) -> &[u8], field: &[u8], breach: Breach) -> Result<u32, Breach> {
     all.iter().position(|one| name(one) == field).map(|k| k as u32).ok_or(breach)
@@ -144,22 +152,25 @@ impl Sheet {
                 let (label, from, to) = (name(label)?, number(from)?, number(to)?);
                 add(&mut self.labels, (label, star), (from, to), 64, ManyLabels)
             }
-            (2, &[node, class, pick]) => {
-                let node = name(node)?;
-                let class = place(&self.classes, |c| &c.name, class, UnknownClass)?;
-                let pick = number(pick)?;
-                if self.nodes.iter().any(|n| n.0 == node) {
-                    return Err(DoubledNode);
-                }
-                if self.nodes.len() == 12 {
-                    return Err(ManyNodes);
-                }
-                self.nodes.push((node.to_vec(), class, pick));
-                Ok(())
-            }
+            (2, &[node, class, pick, fixed]) => self.node(node, class, pick, fixed),
             (3, &[label, source, target]) => self.edge(label, [source, target]),
             _ => Err(FieldCount),
         }
+    }
+
+    /// A line of the third section.
+    fn node(&mut self, node: &[u8], class: &[u8], pick: &[u8], fixed: &[u8]) -> Result<(), Breach> {
+        let node = name(node)?;
+        let class = place(&self.classes, |c| &c.name, class, UnknownClass)?;
+        let words = [class, number(pick)?, number_or_dash(fixed)?];
+        if self.nodes.iter().any(|n| n.0 == node) {
+            return Err(DoubledNode);
+        }
+        if self.nodes.len() == 12 {
+            return Err(ManyNodes);
+        }
+        self.nodes.push((node.to_vec(), words));
+        Ok(())
     }
 
     /// A line of the last section.
@@ -190,14 +201,14 @@ impl Sheet {
 
     pub fn drawing(&self) -> Vec<u32> {
         let mut words = vec![self.nodes.len() as u32, self.edges.len() as u32];
-        words.extend(self.nodes.iter().flat_map(|&(_, class, pick)| [class, pick]));
+        words.extend(self.nodes.iter().flat_map(|node| node.1));
         words.extend(self.edges.iter().flatten());
         words
     }
 
     /// The names of the picked nodes, in node order.
     pub fn picked(&self) -> Vec<&[u8]> {
-        self.nodes.iter().filter(|node| node.2 == 1).map(|node| &node.0[..]).collect()
+        self.nodes.iter().filter(|node| node.1[1] == 1).map(|node| &node.0[..]).collect()
     }
 }
 

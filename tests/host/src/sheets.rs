@@ -1,10 +1,11 @@
 //! The sheet query against a second reading of sheets: the returned length, and every byte of the lent slice and beside it.
 
 use crate::checks::Causes;
+use crate::dashes::{self, DASHES};
 use crate::model::{self, Verdict, ACCEPTED};
 use crate::queries;
 use crate::random::Random;
-use crate::sheet_cases::{self, Plan, Sheet, CAUSES, DAMAGES, NEAR};
+use crate::sheet_cases::{self, free, Plan, Sheet, CAUSES, DAMAGES, NEAR};
 use crate::sheet_model::{self, Answer, BREACHES, LENT, MOST_BYTES};
 use crate::stars::{self, STARS};
 use crate::Tally;
@@ -85,51 +86,51 @@ pub fn query(tally: &mut Tally, sheet: &[u8]) {
 // ---- cases with names
 
 pub const SAMPLE: &str = "class object\nregion 1\nregion 2\nregion 3\nregion 4\n\nlabel from to\ntouch 1 2\ntouch 2 3\ntouch 3 4\n\n\
-    node class pick\na region 1\nm region 0\nb region 1\n\nedge source target\ntouch a m\ntouch m b\n";
+    node class pick fixed\na region 1 -\nm region 0 -\nb region 1 -\n\nedge source target\ntouch a m\ntouch m b\n";
 
 /// Sheets with the listings that document 01 fixes for them.
 pub const CASES: [(&str, &str); 34] = [
     (SAMPLE, "a b\n1 3\n2 4\n"),
     // classes are numbered by first appearance, and their lines regrouped; no rows print the names only
-    ("class object\nb 1\na 2\nb 3\n\nlabel from to\n\nnode class pick\nx b 1\n\nedge source target\n", "x\n1\n3\n"),
-    ("class object\na 1\n\nlabel from to\nl 2 2\n\nnode class pick\nx a 1\n\nedge source target\nl x x\n", "x\n"),
+    ("class object\nb 1\na 2\nb 3\n\nlabel from to\n\nnode class pick fixed\nx b 1 -\n\nedge source target\n", "x\n1\n3\n"),
+    ("class object\na 1\n\nlabel from to\nl 2 2\n\nnode class pick fixed\nx a 1 -\n\nedge source target\nl x x\n", "x\n"),
     // a missing line is the one after the last; a last line without its line feed; a name line that is not the one shown
     ("", "refused 14 1\n"),
     ("class object", "refused 14 1\n"),
-    ("class object\na 1\n\nlabel from to\n\nnode class pick\nx a 1\n", "refused 14 8\n"),
-    ("class object\n\nnode class pick\n", "refused 14 3\n"),
+    ("class object\na 1\n\nlabel from to\n\nnode class pick fixed\nx a 1 -\n", "refused 14 8\n"),
+    ("class object\n\nnode class pick fixed\n", "refused 14 3\n"),
     // a leading zero; a name of 13 letters; two spaces; an unknown class; a doubled node; an unknown label
     ("class object\na 01\n", "refused 14 2\n"),
     ("class object\nabcdefghijklm 1\n", "refused 14 2\n"),
     ("class object\na  1\n", "refused 14 2\n"),
-    ("class object\na 1\n\nlabel from to\n\nnode class pick\nx c 1\n", "refused 14 7\n"),
-    ("class object\na 1\n\nlabel from to\n\nnode class pick\nx a 1\nx a 0\n", "refused 14 8\n"),
-    ("class object\na 1\n\nlabel from to\n\nnode class pick\nx a 1\n\nedge source target\nl x x\n", "refused 14 10\n"),
+    ("class object\na 1\n\nlabel from to\n\nnode class pick fixed\nx c 1 -\n", "refused 14 7\n"),
+    ("class object\na 1\n\nlabel from to\n\nnode class pick fixed\nx a 1 -\nx a 0 -\n", "refused 14 8\n"),
+    ("class object\na 1\n\nlabel from to\n\nnode class pick fixed\nx a 1 -\n\nedge source target\nl x x\n", "refused 14 10\n"),
     // what the derived feed and drawing refuse
-    ("class object\na 2\na 1\n\nlabel from to\n\nnode class pick\nx a 1\n\nedge source target\n", "refused 3 5\n"),
-    ("class object\na 65536\n\nlabel from to\n\nnode class pick\nx a 1\n\nedge source target\n", "refused 3 3\n"),
-    ("class object\na 1\n\nlabel from to\n\nnode class pick\nx a 2\n\nedge source target\n", "refused 6 3\n"),
-    ("class object\na 1\n\nlabel from to\n\nnode class pick\nx a 0\n\nedge source target\n", "refused 7 0\n"),
+    ("class object\na 2\na 1\n\nlabel from to\n\nnode class pick fixed\nx a 1 -\n\nedge source target\n", "refused 3 5\n"),
+    ("class object\na 65536\n\nlabel from to\n\nnode class pick fixed\nx a 1 -\n\nedge source target\n", "refused 3 3\n"),
+    ("class object\na 1\n\nlabel from to\n\nnode class pick fixed\nx a 2 -\n\nedge source target\n", "refused 6 3\n"),
+    ("class object\na 1\n\nlabel from to\n\nnode class pick fixed\nx a 0 -\n\nedge source target\n", "refused 7 0\n"),
     // any section may lack value lines, and then there is no node
-    ("class object\n\nlabel from to\n\nnode class pick\n\nedge source target\n", "refused 5 0\n"),
-    ("class object\n\nlabel from to\nl 2 1\nl 1 2\n\nnode class pick\n\nedge source target\n", "refused 3 5\n"),
+    ("class object\n\nlabel from to\n\nnode class pick fixed\n\nedge source target\n", "refused 5 0\n"),
+    ("class object\n\nlabel from to\nl 2 1\nl 1 2\n\nnode class pick fixed\n\nedge source target\n", "refused 3 5\n"),
     // one name for a class, a label and a node; a name that begins another
-    ("class object\na 1\n\nlabel from to\na 1 1\n\nnode class pick\na a 1\n\nedge source target\na a a\n", "a\n1\n"),
-    ("class object\nab 1\na 2\n\nlabel from to\n\nnode class pick\nx a 1\nxy ab 1\n\nedge source target\n", "x xy\n2 1\n"),
+    ("class object\na 1\n\nlabel from to\na 1 1\n\nnode class pick fixed\na a 1 -\n\nedge source target\na a a\n", "a\n1\n"),
+    ("class object\nab 1\na 2\n\nlabel from to\n\nnode class pick fixed\nx a 1 -\nxy ab 1 -\n\nedge source target\n", "x xy\n2 1\n"),
     // the highest object; six digits; digits and a sign
-    ("class object\na 65535\n\nlabel from to\n\nnode class pick\nx a 1\n\nedge source target\n", "x\n65535\n"),
-    ("class object\na 99999\n\nlabel from to\n\nnode class pick\nx a 1\n\nedge source target\n", "refused 3 3\n"),
-    ("class object\na 100000\n\nlabel from to\n\nnode class pick\nx a 1\n\nedge source target\n", "refused 14 2\n"),
-    ("class object\na +1\n\nlabel from to\n\nnode class pick\nx a 1\n\nedge source target\n", "refused 14 2\n"),
-    ("class object\na 0\n\nlabel from to\n\nnode class pick\nx a 1\n\nedge source target\n", "x\n0\n"),
-    ("class object\nabcdefghijkl 1\n\nlabel from to\n\nnode class pick\nx abcdefghijkl 1\n\nedge source target\n", "x\n1\n"),
+    ("class object\na 65535\n\nlabel from to\n\nnode class pick fixed\nx a 1 -\n\nedge source target\n", "x\n65535\n"),
+    ("class object\na 99999\n\nlabel from to\n\nnode class pick fixed\nx a 1 -\n\nedge source target\n", "refused 3 3\n"),
+    ("class object\na 100000\n\nlabel from to\n\nnode class pick fixed\nx a 1 -\n\nedge source target\n", "refused 14 2\n"),
+    ("class object\na +1\n\nlabel from to\n\nnode class pick fixed\nx a 1 -\n\nedge source target\n", "refused 14 2\n"),
+    ("class object\na 0\n\nlabel from to\n\nnode class pick fixed\nx a 1 -\n\nedge source target\n", "x\n0\n"),
+    ("class object\nabcdefghijkl 1\n\nlabel from to\n\nnode class pick fixed\nx abcdefghijkl 1 -\n\nedge source target\n", "x\n1\n"),
     // two empty lines; one behind the last section, or before the first; one within a section, which ends it
-    ("class object\na 1\n\n\nlabel from to\n\nnode class pick\nx a 1\n\nedge source target\n", "refused 14 4\n"),
-    ("class object\na 1\n\nlabel from to\n\nnode class pick\nx a 1\n\nedge source target\n\n", "refused 14 10\n"),
+    ("class object\na 1\n\n\nlabel from to\n\nnode class pick fixed\nx a 1 -\n\nedge source target\n", "refused 14 4\n"),
+    ("class object\na 1\n\nlabel from to\n\nnode class pick fixed\nx a 1 -\n\nedge source target\n\n", "refused 14 10\n"),
     ("\nclass object\na 1\n", "refused 14 1\n"),
     ("class object\na 1\n\na 2\n\nlabel from to\n", "refused 14 4\n"),
     // a whole sheet but for its last line feed; a name line without its own; a line of the next section
-    ("class object\na 1\n\nlabel from to\n\nnode class pick\nx a 1\n\nedge source target", "refused 14 9\n"),
+    ("class object\na 1\n\nlabel from to\n\nnode class pick fixed\nx a 1 -\n\nedge source target", "refused 14 9\n"),
     ("class object\na 1\nlabel from to\n", "refused 14 3\n"),
     ("class object\r\na 1\r\n", "refused 14 1\n"),
 ];
@@ -156,7 +157,7 @@ fn counted(classes: usize, labels: usize, nodes: usize, edges: usize) -> Vec<u8>
     let sections = [
         (0..classes).map(|k| line(&[&name(k), "7"])).collect(),
         (0..labels).map(|k| line(&[&name(k), "7", "7"])).collect(),
-        (0..nodes).map(|k| line(&[&name(k), "aa", "1"])).collect(),
+        (0..nodes).map(|k| line(&[&name(k), "aa", "1", "-"])).collect(),
         (0..edges).map(|k| line(&["aa", &name(k % 12), &name(k / 3)])).collect(),
     ];
     Sheet { sections }.bytes()
@@ -174,7 +175,7 @@ fn repeated(section: usize, fields: &[&str]) -> Vec<u8> {
 pub fn crossed(classes: &[usize], nodes: &[usize]) -> Vec<u8> {
     let plan = Plan {
         classes: classes.iter().map(|&count| (0..count as u32).collect()).collect(),
-        nodes: nodes.iter().map(|&class| (class, 1)).collect(),
+        nodes: nodes.iter().map(|&class| free(class, 1)).collect(),
         ..Plan::default()
     };
     sheet_cases::written(&mut Random::new(21), &plan).bytes()
@@ -186,7 +187,7 @@ fn looped(objects: u32, pairs: u32) -> Vec<u8> {
         classes: vec![(0..objects).collect()],
         labels: vec![(100..100 + pairs).map(|u| (u, 9_999 - u)).collect()],
         two_way: [0].into(),
-        nodes: vec![(0, 1)],
+        nodes: vec![free(0, 1)],
         edges: vec![[0; 3]; 4],
     };
     sheet_cases::written(&mut Random::new(25), &plan).bytes()
@@ -203,7 +204,7 @@ pub struct Ceiling {
 pub fn at_ceilings() -> Vec<Ceiling> {
     // one picked node x of class a, which has as many objects as there is room for
     let mut full = Sheet::default();
-    full.sections[2].push(line(&["x", "a", "1"]));
+    full.sections[2].push(line(&["x", "a", "1", "-"]));
     let full = sheet_cases::filled(full, MOST_BYTES);
     let objects = full.sections[0].len() - 1;
     let mut over = full.clone();
@@ -285,30 +286,51 @@ pub fn mutations(tally: &mut Tally) {
 /// translation; 13, for every translation has room.
 const NUMBERS: [usize; 9] = [0, 3, 5, 6, 7, 10, 11, 12, 14];
 
-/// How many causes of a later refusal, misplaced stars and damages of the bytes a random sheet gets, in turn.
-const CHANGES: [[usize; 3]; 10] =
-    [[0, 0, 0], [0, 0, 0], [1, 0, 0], [2, 0, 0], [0, 0, 1], [0, 0, 1], [0, 0, 2], [1, 0, 1], [0, 1, 0], [1, 1, 0]];
+/// How many causes of a later refusal, misplaced stars, misplaced dashes and damages of the bytes a random sheet gets, in turn.
+const CHANGES: [[usize; 4]; 12] = [
+    [0, 0, 0, 0],
+    [0, 0, 0, 0],
+    [1, 0, 0, 0],
+    [2, 0, 0, 0],
+    [0, 0, 0, 1],
+    [0, 0, 0, 1],
+    [0, 0, 0, 2],
+    [1, 0, 0, 1],
+    [0, 1, 0, 0],
+    [1, 1, 0, 0],
+    [0, 0, 1, 0],
+    [1, 0, 1, 0],
+];
+
+/// A change of one sort to the lines of a sheet.
+type Change = fn(&mut Random, &mut Sheet, usize);
 
 /// How often each change was made.
 struct Changes {
     stars: [usize; STARS.len()],
+    dashes: [usize; DASHES.len()],
     damages: [usize; DAMAGES.len()],
 }
 
 impl Changes {
     /// A valid sheet with so many changes of each sort; and its bytes without any change, and with each alone.
-    fn make(&mut self, r: &mut Random, valid: &Sheet, [of_sheet, of_stars, of_bytes]: [usize; 3]) -> (Vec<u8>, Vec<Vec<u8>>) {
+    fn make(&mut self, r: &mut Random, valid: &Sheet, [of_sheet, of_stars, of_dashes, of_bytes]: [usize; 4]) -> (Vec<u8>, Vec<Vec<u8>>) {
         let mut alone = vec![valid.bytes()];
         let mut changed = valid.clone();
-        for k in 0..of_sheet + of_stars {
-            let star = k >= of_sheet;
-            let (sort, seed) = (r.below(if star { STARS.len() } else { CAUSES }), r.next());
-            let change = if star { stars::misplace } else { sheet_cases::cause };
-            self.stars[sort] += star as usize;
-            change(&mut Random::new(seed), &mut changed, sort);
-            let mut one = valid.clone();
-            change(&mut Random::new(seed), &mut one, sort);
-            alone.push(one.bytes());
+        let changes: [(usize, Change, &mut [usize]); 3] = [
+            (of_sheet, sheet_cases::cause, &mut [0; CAUSES]),
+            (of_stars, stars::misplace, &mut self.stars),
+            (of_dashes, dashes::misplace, &mut self.dashes),
+        ];
+        for (times, change, met) in changes {
+            for _ in 0..times {
+                let (sort, seed) = (r.below(met.len()), r.next());
+                met[sort] += 1;
+                change(&mut Random::new(seed), &mut changed, sort);
+                let mut one = valid.clone();
+                change(&mut Random::new(seed), &mut one, sort);
+                alone.push(one.bytes());
+            }
         }
         let mut bytes = changed.bytes();
         for _ in 0..of_bytes {
@@ -323,13 +345,13 @@ impl Changes {
     }
 }
 
-/// Random sheets: as they are, with one or two causes of a later refusal, with misplaced stars, with their bytes damaged once or twice, and
-/// with two of these.
+/// Random sheets: as they are, with one or two causes of a later refusal, with misplaced stars or dashes, with their bytes damaged once or
+/// twice, and with two of these.
 pub fn random(tally: &mut Tally, cases: usize) {
     let mut r = Random::new(24);
     let mut met = Met::default();
     let mut causes = Causes::default();
-    let mut changes = Changes { stars: [0; STARS.len()], damages: [0; DAMAGES.len()] };
+    let mut changes = Changes { stars: [0; STARS.len()], dashes: [0; DASHES.len()], damages: [0; DAMAGES.len()] };
     for i in 0..cases {
         let valid = sheet_cases::sheet(&mut r);
         let numbers = CHANGES[i % CHANGES.len()];
@@ -340,7 +362,7 @@ pub fn random(tally: &mut Tally, cases: usize) {
         }
         // now and then, and for large sheets: the verdict of the sheet without any change, and with each alone
         let large = valid.sections[0].len() > 150;
-        if (large || i % 50 < 10) && numbers != [0; 3] {
+        if (large || i % 48 < 12) && numbers != [0; 4] {
             let numbers: Vec<u32> = alone.iter().map(|bytes| sheet_model::answer(bytes).verdict.0).collect();
             for (k, &a) in numbers.iter().enumerate() {
                 numbers[..k].iter().for_each(|&b| causes.note(a.max(b), a.min(b)));
@@ -351,6 +373,7 @@ pub fn random(tally: &mut Tally, cases: usize) {
     tally.met_by_name("random sheets accepted", &["no row", "one row", "several rows"].map(String::from), &met.rows);
     tally.met_by_name("random sheets: reasons for 14", &BREACHES.map(|breach| format!("{breach:?}")), &met.breaches);
     tally.met_by_name("random sheets: misplaced stars", &STARS.map(String::from), &changes.stars);
+    tally.met_by_name("random sheets: misplaced dashes", &DASHES.map(String::from), &changes.dashes);
     tally.met_by_name("random sheets: damages of the bytes", &DAMAGES.map(String::from), &changes.damages);
     println!("random sheets: longest listing {} bytes", met.longest);
     causes.show_pairs(tally, "a sheet's 14 and a later cause", &[14], &[3, 5, 6, 7, 10, 11, 12]);

@@ -2,6 +2,7 @@
 //! header's table; and that the calls run on threads with little more than that.
 
 use crate::cases;
+use crate::examples::{drawing, fixed_drawing};
 use crate::model::Table;
 use crate::pages;
 use crate::sheets;
@@ -86,18 +87,21 @@ fn large_runs() -> Vec<Words> {
     lists.map(|list| (feed.clone(), list)).into()
 }
 
-/// 65,536 rows by cross; the same by a chain whose ends come out in the other order, so that they must be sorted; 12 nodes with 24 edges; an edge
-/// of a two-way label of 4,096 pairs.
+/// 65,536 rows by cross; the same by a chain whose ends come out in the other order, so that they must be sorted; 12 nodes with 24 edges, and the
+/// same with every node fixed; an edge of a two-way label of 4,096 pairs.
 fn large_queries() -> Vec<Words> {
     let spokes: Table = (0..256).map(|i| (7, i)).collect();
     let all: Table = [(0, 0), (0, 1), (1, 0), (1, 1)].into();
     let classes = [cases::class(0, 256), cases::class(7, 1), cases::class(0, 2)];
     let feed = cases::feed_with(&classes, &[spokes, all, descending()], &[false, false, true]);
-    let mut crowded = vec![12, 24];
-    crowded.extend([2, 1].repeat(12));
-    crowded.extend((0..24).flat_map(|k| [1, k % 12, (5 * k + 1) % 12]));
-    let two_way = vec![2, 1, 0, 1, 0, 1, 2, 0, 1];
-    let drawings = [vec![2, 0, 0, 1, 0, 1], vec![3, 2, 0, 1, 1, 0, 0, 1, 0, 1, 2, 0, 1, 0], crowded, two_way];
+    let around: Vec<(u32, u32, u32)> = (0..24).map(|k| (1, k % 12, (5 * k + 1) % 12)).collect();
+    let drawings = [
+        drawing(&[(0, 1), (0, 1)], &[]),
+        drawing(&[(0, 1), (1, 0), (0, 1)], &[(0, 1, 2), (0, 1, 0)]),
+        drawing(&[(2, 1); 12], &around),
+        fixed_drawing(&[(2, 1, 1); 12], &around),
+        drawing(&[(0, 1), (0, 1)], &[(2, 0, 1)]),
+    ];
     drawings.map(|drawing| (feed.clone(), drawing)).into()
 }
 

@@ -11,7 +11,7 @@ use crate::Tally;
 /// A class a of 1, 2 and 3, nodes x and y of it, both picked, and these label lines and edge lines. The first label line is line 7; with one
 /// label line the first edge line is line 14.
 fn sheet(labels: &str, edges: &str) -> String {
-    format!("class object\na 1\na 2\na 3\n\nlabel from to\n{labels}\nnode class pick\nx a 1\ny a 1\n\nedge source target\n{edges}")
+    format!("class object\na 1\na 2\na 3\n\nlabel from to\n{labels}\nnode class pick fixed\nx a 1 -\ny a 1 -\n\nedge source target\n{edges}")
 }
 
 /// Name, label lines, edge lines, and the listing.
@@ -58,13 +58,15 @@ const LABELS: [(&str, &str, &str, &str); 35] = [
 ];
 
 /// A field of the good sheet with a star behind it, and the line that is then wrong.
-const FIELDS: [(&str, &str, u32); 9] = [
+const FIELDS: [(&str, &str, u32); 11] = [
     ("a 1\n", "a* 1\n", 2),
     ("a 2\n", "a* 2\n", 3),
     ("a 1\n", "a 1*\n", 2),
-    ("x a 1\n", "x* a 1\n", 10),
-    ("x a 1\n", "x a* 1\n", 10),
-    ("x a 1\n", "x a 1*\n", 10),
+    ("x a 1 -\n", "x* a 1 -\n", 10),
+    ("x a 1 -\n", "x a* 1 -\n", 10),
+    ("x a 1 -\n", "x a 1* -\n", 10),
+    ("x a 1 -\n", "x a 1 -*\n", 10),
+    ("x a 1 -\n", "x a 1 *\n", 10),
     ("label from to\n", "label* from to\n", 6),
     ("class object\n", "class* object\n", 1),
     ("edge source target\n", "edge* source target\n", 13),
@@ -79,8 +81,8 @@ const WORDS: [(&str, &str, &str, &str); 3] = [
 
 /// Whole sheets: one name for a class, a label with its star and a node; the last line unended; an earlier breach; the example.
 const WHOLE: [(&str, &str); 4] = [
-    ("class object\nl 1\nl 2\n\nlabel from to\nl* 2 1\n\nnode class pick\nl l 1\nx l 1\n\nedge source target\nl* l x\n", "l x\n1 2\n2 1\n"),
-    ("class object\na 1\n\nlabel from to\nl* 1 1\n\nnode class pick\nx a 1\n\nedge source target\nl* x x", "refused 14 11\n"),
+    ("class object\nl 1\nl 2\n\nlabel from to\nl* 2 1\n\nnode class pick fixed\nl l 1 -\nx l 1 -\n\nedge source target\nl* l x\n", "l x\n1 2\n2 1\n"),
+    ("class object\na 1\n\nlabel from to\nl* 1 1\n\nnode class pick fixed\nx a 1 -\n\nedge source target\nl* x x", "refused 14 11\n"),
     ("class object\na 01\n\nlabel from to\nl* 1 1\nl 1 2\n", "refused 14 2\n"),
     (include_str!("../../../examples/touching.sheet"), include_str!("../../../examples/touching.listing")),
 ];
@@ -140,7 +142,7 @@ fn field_of(r: &mut Random, sort: usize) -> (usize, usize) {
         10 => (2, 1),
         11 => (2, 0),
         12 => (3, 1 + r.below(2)),
-        13 => [(0, 1), (1, 1), (1, 2), (2, 2)][r.below(4)],
+        13 => [(0, 1), (1, 1), (1, 2), (2, 2), (2, 3)][r.below(5)],
         _ => ([1, 3][r.below(2)], 0),
     }
 }

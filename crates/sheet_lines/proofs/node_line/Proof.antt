@@ -34,16 +34,23 @@ value-of-requires : tie.Need-value-of-requires
 value-of-requires c κs =
     let i = c .before in
     let w = i .before .before .fields-of .ensures in
-    record { inside = w .within .third; number = node-passed w _ _ (sym (i .before .is-node .ensures) ∙ i .if1 .taken) }
+    record { inside = w .within .third; number = node-passed w _ _ (sym (i .before .is-node .ensures) ∙ i .if1 .taken) .0 }
+
+number-or-any-requires : tie.Need-number-or-any-requires
+number-or-any-requires c κs =
+    let i = c .before .before in
+    let w = i .before .before .fields-of .ensures in
+    record { inside = w .within .fourth; allowed = node-passed w _ _ (sym (i .before .is-node .ensures) ∙ i .if1 .taken) .1 }
 
 returns : tie.Need-returns
 returns c =
-    let v = c .before in
+    let n = c .before in
+    let v = n .before in
     let k = v .before in
     let i = k .before in
     let g = i .before .before in
     let s = g .before .before .before in
-    let made = rw (k .find-name .ensures, v .value-of .ensures) at (c .with-node .ensures) in
+    let made = rw (k .find-name .ensures, v .value-of .ensures, n .number-or-any .ensures) at (c .with-node .ensures) in
     node-read (s .pre) (state-roomy (s .args .x) (s .good .1 .1 .0)) (g .fields-of .ensures) (sym (i .before .is-node .ensures) ∙ i .if1 .taken) made
 
 returns-2 : tie.Need-returns-2
@@ -61,6 +68,7 @@ node-line-spec =
     find-name-requires
     cast-class
     value-of-requires
+    number-or-any-requires
     (λ c κs. search needs)
     returns
     returns-2)

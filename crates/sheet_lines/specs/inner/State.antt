@@ -1,7 +1,7 @@
 -- State: what the reader holds of a sheet, and what it shows of it.
 --
--- In order: the lines of the classes or labels, in words; what a state shows; what the functions are given; the tests of a class line and of a label
--- line; steps that touch no lines; what a step promises. Assumes nothing.
+-- In order: the lines of the classes or labels, in words; what a state shows; what the functions are given; the tests of a class line, of a label line
+-- and of a node line; steps that touch no lines; what a step promises. Assumes nothing.
 use Prim.Native.Nat.{ℕ, _+_, _*_, _/_, _≤_, _<_}
 use mathlib.Core.Path.{_≡_}
 use mathlib.Core.Bool.{Bool, true, false, _&&_, not}
@@ -18,7 +18,7 @@ use Rattle.drawing.specs.Builder.{Line, view}
 use Rattle.sheet_text.specs.declared.Span.{Span}
 use Rattle.sheet_text.specs.declared.Names.{Names}
 use Rattle.sheet_text.specs.declared.Fields.{Fields}
-use Rattle.sheet_text.specs.Text.{isName, isNumber, isLabelName, clashes}
+use Rattle.sheet_text.specs.Text.{isName, isNumber, known, isNumberOrDash, isLabelName, clashes}
 use Rattle.sheet_text.specs.inner.Parts.{textAt, Inside, Within, namesOf, withName, Spans}
 use Rattle.sheet_lines.specs.declared.Tables.{Tables}
 use Rattle.sheet_lines.specs.declared.State.{State}
@@ -125,7 +125,8 @@ pub record ReadyFor (s classes labels : List ℕ) (line : Span) (x : State) : Ty
   pub ready : Ready s line x
   pub held : Held classes labels
 
--- ---- whether fields make a class line, with these names of classes; a label line, with these names of labels
+-- ---- whether fields make a class line, with these names of classes; a label line, with these names of labels; a node line, with these names of
+-- classes and nodes, but for the room in the drawing
 
 abbrev pub isClassLine : List ℕ → Fields → List (List ℕ) → Bool
 isClassLine s f names = eqb (f .count) 2 && isName (textAt s (f .first)) && fitsTable mostClasses (textAt s (f .first)) names && isNumber (textAt s (f .second))
@@ -134,6 +135,11 @@ abbrev pub isLabelLine : List ℕ → Fields → List (List ℕ) → Bool
 isLabelLine s f names =
     eqb (f .count) 3 && isLabelName (textAt s (f .first)) && not (clashes (textAt s (f .first)) names) && fitsTable mostLabels (textAt s (f .first)) names
     && isNumber (textAt s (f .second)) && isNumber (textAt s (f .third))
+
+abbrev pub isNodeLine : List ℕ → Fields → List (List ℕ) → List (List ℕ) → Bool
+isNodeLine s f classes nodes =
+    eqb (f .count) 4 && isName (textAt s (f .first)) && not (known (textAt s (f .first)) nodes) && known (textAt s (f .second)) classes
+    && isNumber (textAt s (f .third)) && isNumberOrDash (textAt s (f .fourth))
 
 -- ---- steps that touch no lines
 

@@ -8,8 +8,21 @@ use Rattle.drawing.proofs.words.read_node.Tie as tie
 
 returns : tie.Need-returns
 unfolding nodeOf
-returns c = let s = c .before .before in rw (getD-drop (s .args .at) (s .args .words .now) 0 0, getD-drop (s .args .at) (s .args .words .now) 1 0, add-zero)
+returns c =
+    let s = c .before .before .before in
+    let at = getD-drop (s .args .at) (s .args .words .now) in
+    rw (at 0 0, at 1 0, at 2 0, add-zero)
 
 pub read-node-spec : {M : Type 1} → statement M
 read-node-spec =
-    tie.close (tie.spec (λ c. search needs) (λ c. search needs) (λ c. search needs) (λ c. search needs) (λ c. search needs) returns)
+    tie.close
+    (tie.spec
+    (λ c. search needs)
+    (λ c. search needs)
+    (λ c. search needs)
+    (λ c. search needs)
+    (λ c. search needs)
+    (λ c. search needs)
+    (λ c. search needs)
+    (λ c. search needs)
+    returns)
