@@ -1,5 +1,5 @@
--- Reading: what has been read of a sheet, and what one line adds to it (document 01, 'The sheet'; document 02, E1, for the star of a label,
--- E4, for the fixed object of a node).
+-- Reading: what has been read of a sheet, and what one line adds to it (document 01, 'The sheet'; document 02: E1, the star of a label; E4, the
+-- fixed object of a node).
 --
 -- In order: what has been read; the four kinds of lines; any line. Assumes nothing.
 use Prim.Native.Nat.{ℕ, _+_}

@@ -7,7 +7,6 @@ use Prim.Native.String.{String}
 use mathlib.Core.List.{List, [], _∷_, _++_}
 use lib.ListN.{replicate}
 use Rattle.answers.specs.Verdict.{Verdict, accepted, refused}
-use Rattle.sheet_text.specs.Text.{bytes}
 use Rattle.sheet_layout.specs.Cases.{linesText}
 use Rattle.sheet_pages.specs.SheetPages.{Paged}
 

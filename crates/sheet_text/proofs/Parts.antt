@@ -16,7 +16,7 @@ use Rattle.sheet_text.specs.declared.Span.{Span}
 use Rattle.sheet_text.specs.declared.Front.{Front}
 use Rattle.sheet_text.specs.declared.Fields.{Fields}
 use Rattle.sheet_text.specs.Text.{split, addByte, fields, same}
-use Rattle.sheet_text.specs.inner.Parts.{span, textAt, Inside, Cut, Fore, one, two, more, Fronted, Fielded}
+use Rattle.sheet_text.specs.inner.Parts.{span, textAt, Inside, Cut, Leading, one, two, more, Fronted, Within, Fielded}
 
 -- ---- the search for a separator
 
@@ -138,7 +138,7 @@ module _ {s : List ℕ} {line : Span} {x : Front} (a : Fronted s line x) where
   pub front-few : x .count ≤ 3
   front-few = by (a .shown)
     where
-      by : Fore s line x → x .count ≤ 3
+      by : Leading s line x → x .count ≤ 3
       by (one n e) = omega arith
       by (two n apart ends e) = omega arith
       by (more n apart after ends e) = omega arith
@@ -146,20 +146,23 @@ module _ {s : List ℕ} {line : Span} {x : Front} (a : Fronted s line x) where
   abbrev firsts : Fields
   firsts = record { count = x .count; first = x .first; second = x .second; third = x .rest; fourth = x .rest }
 
+  firsts-within : Within s firsts
+  firsts-within = record { first = a .first; second = a .second; third = a .rest; fourth = a .rest }
+
   pub few-fields : x .count < 3 → Fielded s line firsts
   few-fields h = by (a .shown)
     where
-      by : Fore s line x → Fielded s line firsts
+      by : Leading s line x → Fielded s line firsts
       by (one n e) = record {
         counted = let l = ap length e in omega arith;
-        within = record { first = a .first; second = a .second; third = a .rest; fourth = a .rest };
+        within = firsts-within;
         two = λ z. absurd (omega arith);
         three = λ z. absurd (omega arith);
         four = λ z. absurd (omega arith);
       }
       by (two n apart ends e) = record {
         counted = let l = ap length e in omega arith;
-        within = record { first = a .first; second = a .second; third = a .rest; fourth = a .rest };
+        within = firsts-within;
         two = λ z. record { starts = omega (arith, a .starts); apart = apart; ends = ends; shown = e };
         three = λ z. absurd (omega arith);
         four = λ z. absurd (omega arith);
@@ -170,17 +173,20 @@ module _ {s : List ℕ} {line : Span} {x : Front} (a : Fronted s line x) where
     abbrev both : Fields
     both = record { count = 2 + y .count; first = x .first; second = x .second; third = y .first; fourth = y .second }
 
+    both-within : Within s both
+    both-within = record { first = a .first; second = a .second; third = b .first; fourth = b .second }
+
     pub rest-fields : Fielded s line both
     rest-fields = by (a .shown) (b .shown)
       where
-        by : Fore s line x → Fore s (x .rest) y → Fielded s line both
+        by : Leading s line x → Leading s (x .rest) y → Fielded s line both
         by (one n e) q = absurd (omega arith)
         by (two n apart ends e) q = absurd (omega arith)
         by (more n apart after ends e) (one k f) =
             let all : fields (textAt s line) ≡ textAt s (x .first) ∷ textAt s (x .second) ∷ textAt s (y .first) ∷ [] = e ∙ rw f in
             record {
               counted = let l = ap length all in omega arith;
-              within = record { first = a .first; second = a .second; third = b .first; fourth = b .second };
+              within = both-within;
               two = λ z. absurd (omega arith);
               three = λ z. record { starts = omega (arith, a .starts); apart = apart; after = omega (arith, b .starts); ends = omega (arith, b .ends); shown = all };
               four = λ z. absurd (omega arith);
@@ -189,7 +195,7 @@ module _ {s : List ℕ} {line : Span} {x : Front} (a : Fronted s line x) where
             let all : fields (textAt s line) ≡ textAt s (x .first) ∷ textAt s (x .second) ∷ textAt s (y .first) ∷ textAt s (y .second) ∷ [] = e ∙ rw f in
             record {
               counted = let l = ap length all in omega arith;
-              within = record { first = a .first; second = a .second; third = b .first; fourth = b .second };
+              within = both-within;
               two = λ z. absurd (omega arith);
               three = λ z. absurd (omega arith);
               four = λ z. all;
@@ -198,7 +204,7 @@ module _ {s : List ℕ} {line : Span} {x : Front} (a : Fronted s line x) where
             let all : fields (textAt s line) ≡ textAt s (x .first) ∷ textAt s (x .second) ∷ textAt s (y .first) ∷ textAt s (y .second) ∷ fields (textAt s (y .rest)) = e ∙ rw f in
             record {
               counted = let l = ap length all in let o = some-fields s (y .rest .start) (y .rest .end) in omega arith;
-              within = record { first = a .first; second = a .second; third = b .first; fourth = b .second };
+              within = both-within;
               two = λ z. absurd (omega arith);
               three = λ z. absurd (omega arith);
               four = λ z. absurd (omega arith);

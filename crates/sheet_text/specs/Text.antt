@@ -1,5 +1,4 @@
--- Text: bytes, lines and fields, names and numbers (document 01, 'The sheet'; document 02, E1, for the star, E4,
--- for the dash).
+-- Text: bytes, lines and fields, names and numbers (document 01, 'The sheet'; document 02: E1, the star; E4, the dash).
 --
 -- In order: bytes of a quoted text; parts between separators; names; numbers, read and written; equality and look-up of names; a number or a dash;
 -- names of labels, with a star or without. Assumes nothing.

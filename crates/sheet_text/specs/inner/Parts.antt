@@ -54,12 +54,12 @@ pub record Cut (s : List ℕ) (a e sep r : ℕ) : Type 0 where
 
 -- ---- the first two fields of a part, and the rest
 
--- how many there are, 3 standing for more than 2
-pub data Fore (s : List ℕ) (p : Span) (x : Front) : Type 0 where
-  one : x .count ≡ 1 → fields (textAt s p) ≡ textAt s (x .first) ∷ [] → Fore s p x
-  two : x .count ≡ 2 → x .first .end < x .second .start → x .second .end ≤ p .end → fields (textAt s p) ≡ textAt s (x .first) ∷ textAt s (x .second) ∷ [] → Fore s p x
+-- what they are, by how many there are, 3 standing for more than 2
+pub data Leading (s : List ℕ) (p : Span) (x : Front) : Type 0 where
+  one : x .count ≡ 1 → fields (textAt s p) ≡ textAt s (x .first) ∷ [] → Leading s p x
+  two : x .count ≡ 2 → x .first .end < x .second .start → x .second .end ≤ p .end → fields (textAt s p) ≡ textAt s (x .first) ∷ textAt s (x .second) ∷ [] → Leading s p x
   more : x .count ≡ 3 → x .first .end < x .second .start → x .second .end < x .rest .start → x .rest .end ≡ p .end →
-      fields (textAt s p) ≡ textAt s (x .first) ∷ textAt s (x .second) ∷ fields (textAt s (x .rest)) → Fore s p x
+      fields (textAt s p) ≡ textAt s (x .first) ∷ textAt s (x .second) ∷ fields (textAt s (x .rest)) → Leading s p x
 
 pub record Fronted (s : List ℕ) (p : Span) (x : Front) : Type 0 where
   pub first : Inside s (x .first)
@@ -67,7 +67,7 @@ pub record Fronted (s : List ℕ) (p : Span) (x : Front) : Type 0 where
   pub rest : Inside s (x .rest)
   pub starts : x .first .start ≡ p .start
   pub ends : x .first .end ≤ p .end
-  pub shown : Fore s p x
+  pub shown : Leading s p x
 
 -- ---- the fields of a line, as far as a line may have: two, three, or four
 
@@ -93,7 +93,7 @@ pub record Within (s : List ℕ) (f : Fields) : Type 0 where
   pub third : Inside s (f .third)
   pub fourth : Inside s (f .fourth)
 
--- how many fields there are, 5 standing for more than 4, and the first four; of a line of four no length is needed
+-- how many fields there are, 5 standing for more than 4, and the first four; where they stand is said of two and of three, which class and label lines need
 pub record Fielded (s : List ℕ) (line : Span) (f : Fields) : Type 0 where
   pub counted : f .count ≡ min 5 (length (fields (textAt s line)))
   pub within : Within s f
