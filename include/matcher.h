@@ -16,10 +16,10 @@
  *       matcher_check_feed       1
  *       matcher_check_drawing    4
  *       matcher_translate       26
- *       matcher_run            540
- *       matcher_query          560
- *       matcher_sheet_query    330
- *       matcher_sheet_pages    330
+ *       matcher_run            800
+ *       matcher_query          820
+ *       matcher_sheet_query    584
+ *       matcher_sheet_pages    584
  *
  * Calls share no state, keep none and allocate nothing; of the C library they need memcpy and memset. Threads may call at once, each
  * with its own slices to write to; slices that are only read may be shared.
@@ -30,10 +30,10 @@
 #include <stddef.h>
 #include <stdint.h>
 
-#define MATCHER_VERSION "3.0.0"
+#define MATCHER_VERSION "3.0.1"
 #define MATCHER_VERSION_MAJOR 3
 #define MATCHER_VERSION_MINOR 0
-#define MATCHER_VERSION_PATCH 0
+#define MATCHER_VERSION_PATCH 1
 
 /* Words that take every translation: 876 instructions. */
 #define MATCHER_LIST_WORDS 2628

@@ -1,4 +1,4 @@
-//! Processor time, and the median of many times.
+//! Processor time, and what is usual among many times or ratios.
 
 /// Processor time of this thread, in seconds.
 pub fn now() -> f64 {
@@ -19,4 +19,9 @@ pub fn now() -> f64 {
 pub fn median(mut times: Vec<f64>) -> f64 {
     times.sort_by(f64::total_cmp);
     times[times.len() / 2]
+}
+
+pub fn geometric_mean(ratios: impl IntoIterator<Item = f64>) -> f64 {
+    let (sum, count) = ratios.into_iter().fold((0.0, 0), |(sum, count), x| (sum + x.ln(), count + 1));
+    (sum / count as f64).exp()
 }

@@ -74,9 +74,18 @@ pub fn pairs(n: usize, mut draw: impl FnMut() -> (u32, u32)) -> Pairs {
     set.into_iter().collect()
 }
 
+/// The objects of an ordinary table of n pairs.
+pub fn objects(n: usize) -> usize {
+    (n / 4).max(40)
+}
+
 /// n pairs over about n / 4 objects, at random: some four pairs for each left value and each right value.
 pub fn ordinary(r: &mut Random, n: usize) -> Pairs {
-    let objects = (n / 4).max(40);
+    over(r, n, objects(n))
+}
+
+/// n pairs over so many objects, at random.
+pub fn over(r: &mut Random, n: usize, objects: usize) -> Pairs {
     pairs(n, || (r.below(objects) as u32, r.below(objects) as u32))
 }
 
@@ -87,4 +96,18 @@ pub fn shuffled(r: &mut Random, n: usize) -> Vec<u32> {
         all.swap(i, r.below(i + 1));
     }
     all
+}
+
+/// n different numbers up to 65,535, ascending, with gaps between them.
+pub fn spread(r: &mut Random, n: usize) -> Vec<u32> {
+    let mut set = BTreeSet::new();
+    while set.len() < n {
+        set.insert(r.below(65_536) as u32);
+    }
+    set.into_iter().collect()
+}
+
+/// The same pairs with other numbers, which ascend.
+pub fn renumbered(pairs: &[(u32, u32)], to: &[u32]) -> Pairs {
+    pairs.iter().map(|&(u, v)| (to[u as usize], to[v as usize])).collect()
 }

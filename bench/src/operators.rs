@@ -1,7 +1,7 @@
 //! The operators, each on ordinary operands and on those that are worst for it.
 
 use crate::measure::{Bench, Times, PASSES};
-use crate::operands::{ordinary, pairs, shuffled, Pairs, Program};
+use crate::operands::{objects, ordinary, over, pairs, renumbered, shuffled, spread, Pairs, Program};
 use crate::random::Random;
 use std::collections::BTreeSet;
 
@@ -32,12 +32,15 @@ const ROOM: &str = "the room is tested at each pair; the peer tests it once, so 
 const GROUPS: &str = "each left value of the first table is a call of its own, which tests the room and then writes its pairs";
 const PAIRS: &str = "two pairs are compared by left and then by right; the peer compares them as one number each";
 const CALLS: &str = "nothing is moved, so what counts is the calls, down to halves of one pair, and one comparison at each";
-const ALONE: &str = "each group of the first table is a call of its own, with its own search in the second";
-pub const JOINED: &str = "the union of two runs is made in the other slice and copied back; the peer copies one run out and merges back";
+const WAYS: &str = "the way of finding is asked at each look-up; the peer has a loop for each way";
+const INDEX: &str = "the index is zeroed before it is filled, and the way of finding is asked at each look-up; the peer keeps its index, and has a loop for \
+    each way";
+const PART: &str = "a part of the other table is copied pair by pair; the peer copies it as a whole";
+pub const OPEN: &str = "both take the same steps; where the time goes was not looked into";
 const FORETOLD: &str = "the merge picks and does not branch, so each step waits for the one before; the peer branches, which is faster where \
     the branch is foretold and slower where it is not, and copies the rest of a table as a whole";
 const LAST: &str = "a left value is written where it stands for the last time, so each step looks at two pairs and for the end of the table";
-const GROUP: &str = "the room is tested at each pair; the peer tests it once and copies the group as a whole";
+const GROUP: &str = "the group is copied pair by pair; the peer copies it as a whole";
 const TURNED: &str = "the turned pairs are gathered by calls, down to halves of one pair; the room is tested at each pair of the merge";
 const SHORT: &str = "a loop of one or two cycles a pair, for which the place that the linker gives it counts as much as its text";
 
@@ -77,9 +80,29 @@ fn graph(n: usize, f: impl FnMut(u32) -> u32) -> Pairs {
     (0..n as u32).map(|i| (i, f(i))).collect()
 }
 
+/// Each of these numbers with one at random.
+fn function(r: &mut Random, lefts: &[u32]) -> Pairs {
+    lefts.iter().map(|&u| (u, r.below(65_536) as u32)).collect()
+}
+
 /// u × v, for u below x and v below y.
 fn block(x: u32, y: u32) -> Pairs {
     (0..x).flat_map(|u| (0..y).map(move |v| (u, v))).collect()
+}
+
+/// The identity of about half of the numbers below n, at random.
+fn half(r: &mut Random, n: usize) -> Pairs {
+    graph(n, |i| i).into_iter().filter(|_| r.one_in(2)).collect()
+}
+
+/// n pairs of objects and tags: the right tags of two tables, read from the right.
+fn two_tags(p: &mut Program, r: &mut Random, n: usize) -> (u32, u32) {
+    let [a, b] = [(); 2].map(|()| {
+        let t = p.table(&over(r, n / 2, objects(n)));
+        let tag = p.then(8, t, 0);
+        p.then(2, tag, 0)
+    });
+    (p.then(5, a, b), 0)
 }
 
 /// Two sides whose product is about n.
@@ -124,6 +147,13 @@ fn few(p: &mut Program, r: &mut Random, n: usize) -> (u32, u32) {
     two(p, &of(false), &of(true))
 }
 
+/// n pairs, all in the first table, and one in so many in the second, too.
+fn some_too(p: &mut Program, r: &mut Random, n: usize, often: usize) -> (u32, u32) {
+    let all = ordinary(r, n);
+    let some: Pairs = all.iter().copied().filter(|_| r.one_in(often)).collect();
+    two(p, &all, &some)
+}
+
 /// n pairs, the lower half in the first table, the other in the second.
 fn behind(p: &mut Program, r: &mut Random, n: usize) -> (u32, u32) {
     let all = ordinary(r, n);
@@ -140,29 +170,62 @@ fn cases() -> Vec<Case> {
             let both: BTreeSet<(u32, u32)> = half.iter().copied().chain(half.iter().map(|&(u, v)| (v, u))).collect();
             (p.two_way(both.into_iter().collect()), 0)
         }),
-        case(2, "four rights a left, at random", PAIRS, |p, r, n| one(p, &ordinary(r, n))),
-        case(2, "rights descend", PAIRS, |p, _, n| one(p, &graph(n, |i| n as u32 - 1 - i))),
-        case(2, "rights ascend with the lefts", CALLS, |p, _, n| one(p, &graph(n, |i| i))),
-        // a quarter of the pairs in a, so that the result has about n
-        case(3, "four rights a middle value, at random", ALONE, |p, r, n| two(p, &ordinary(r, n / 4), &ordinary(r, n))),
-        case(3, "left tag with a function", ALONE, |p, r, n| {
-            let t = p.table(&ordinary(r, n));
-            (p.then(7, t, 0), p.table(&graph((n / 4).max(40), |_| r.below(65_536) as u32)))
+        case(2, "four rights a left, at random", OPEN, |p, r, n| one(p, &ordinary(r, n))),
+        case(2, "rights descend", OPEN, |p, _, n| one(p, &graph(n, |i| n as u32 - 1 - i))),
+        case(2, "rights ascend with the lefts", OPEN, |p, _, n| one(p, &graph(n, |i| i))),
+        case(2, "rights spread wide, as tags of two tables", PAIRS, two_tags),
+        case(3, "identity with a table", PART, |p, r, n| two(p, &graph(objects(n), |i| i), &ordinary(r, n))),
+        case(3, "identity with gaps with a table, spread wide", WAYS, |p, r, n| {
+            let to = spread(r, objects(n));
+            two(p, &renumbered(&graph(objects(n), |i| i), &to), &renumbered(&ordinary(r, n), &to))
         }),
-        case(3, "four middle values a left, one right each", JOINED, |p, r, n| {
+        case(3, "table with an identity", SHORT, |p, r, n| two(p, &ordinary(r, n), &graph(objects(n), |i| i))),
+        case(3, "table with an identity of half of its rights", SHORT, |p, r, n| two(p, &ordinary(r, n), &graph(objects(n) / 2, |i| i))),
+        case(3, "table with an identity with gaps", OPEN, |p, r, n| two(p, &ordinary(r, n), &half(r, objects(n)))),
+        case(3, "table with an identity with gaps, spread wide", OPEN, |p, r, n| {
+            let to = spread(r, objects(n));
+            two(p, &renumbered(&ordinary(r, n), &to), &renumbered(&half(r, objects(n)), &to))
+        }),
+        case(3, "left tag with a function", WAYS, |p, r, n| {
+            let t = p.table(&ordinary(r, n));
+            (p.then(7, t, 0), p.table(&graph(objects(n), |_| r.below(65_536) as u32)))
+        }),
+        case(3, "right tag with a function", WAYS, |p, r, n| {
+            let t = p.table(&ordinary(r, n));
+            (p.then(8, t, 0), p.table(&graph(objects(n), |_| r.below(65_536) as u32)))
+        }),
+        case(3, "right tag with a function, spread wide", WAYS, |p, r, n| {
+            let to = spread(r, objects(n));
+            let t = p.table(&renumbered(&ordinary(r, n), &to));
+            (p.then(8, t, 0), p.table(&function(r, &to)))
+        }),
+        // a quarter of the pairs in a, so that the result has about n
+        case(3, "right tag with four rights a value", WAYS, |p, r, n| {
+            let t = p.table(&over(r, n / 4, objects(n)));
+            (p.then(8, t, 0), p.table(&ordinary(r, n)))
+        }),
+        case(3, "right tag with four rights a value, spread wide", WAYS, |p, r, n| {
+            let to = spread(r, objects(n));
+            let t = p.table(&renumbered(&over(r, n / 4, objects(n)), &to));
+            (p.then(8, t, 0), p.table(&renumbered(&ordinary(r, n), &to)))
+        }),
+        case(3, "four rights a middle value, at random", INDEX, |p, r, n| two(p, &ordinary(r, n / 4), &ordinary(r, n))),
+        case(3, "four middle values a left, one right each", OPEN, |p, r, n| {
             two(p, &pairs(n, || (r.below(n / 4) as u32, r.below(n) as u32)), &graph(n, |_| r.below(n) as u32))
         }),
-        case(3, "one left, rights shuffled", JOINED, |p, r, n| {
+        case(3, "one left, rights shuffled", OPEN, |p, r, n| {
             let to = shuffled(r, n);
             two(p, &block(1, n as u32), &graph(n, |i| to[i as usize]))
         }),
-        case(3, "block with block", JOINED, |p, _, n| {
+        case(3, "block with block", OPEN, |p, _, n| {
             let (x, y) = sides(n);
             two(p, &block(x, y), &block(y, x))
         }),
-        case(4, "thirds, at random", FORETOLD, thirds),
-        case(4, "sixteen pairs in the second", FORETOLD, few),
-        case(4, "the second behind the first", FORETOLD, behind),
+        case(4, "thirds, at random", OPEN, thirds),
+        case(4, "sixteen pairs in the second", OPEN, few),
+        case(4, "one in twenty, at random, in the second, too", OPEN, |p, r, n| some_too(p, r, n, 20)),
+        case(4, "one in twelve, at random, in the second, too", OPEN, |p, r, n| some_too(p, r, n, 12)),
+        case(4, "the second behind the first", OPEN, behind),
         case(5, "thirds, at random", FORETOLD, thirds),
         case(5, "sixteen pairs in the second", FORETOLD, few),
         case(5, "the second behind the first", FORETOLD, behind),

@@ -1,8 +1,8 @@
 //! The page of figures.
 
-use crate::clock::median;
+use crate::clock::{geometric_mean, median};
 use crate::figures::{count, figure};
-use crate::operators::{Row, Worst, JOINED, NAMES};
+use crate::operators::{Row, Worst, NAMES, OPEN};
 
 /// More than this, and the page says why.
 const BOUND: f64 = 1.25;
@@ -10,7 +10,7 @@ const BOUND: f64 = 1.25;
 const HEAD: &str = "\
 # The operators of the run, beside an unproved run
 
-Written by `bench/run`; x86-64, one core. Each operator of `matcher_run` is timed beside an unproved one in Rust (`bench/src/peer.rs`, optimised, plain x86-64): the
+Written by `bench/run`; x86-64, one core. Each operator of `matcher_run` is timed beside an unproved one in Rust (`bench/src/peer/`, optimised, plain x86-64): the
 same algorithms over the same work slice, written for speed. The two take turns in one process. A time is the difference between a list that repeats the
 operator and one without it, so that checks, loads and the making of the operands cancel; it is a median of many in three passes, in processor time. Both first ran
 each list, and 40,000 random ones, and gave the same number, place and words.
@@ -45,7 +45,8 @@ fn table(rows: &[Row]) -> String {
 fn summary(rows: &[Row]) -> String {
     let ratios: Vec<f64> = rows.iter().flat_map(|row| row.times.iter().map(|(_, t)| t.ratio())).collect();
     let within = ratios.iter().filter(|&&x| x <= BOUND).count();
-    format!("Of {} ratios {within} are at most {BOUND}; the median is {:.2}.\n", ratios.len(), median(ratios.clone()))
+    let (usual, mean) = (median(ratios.clone()), geometric_mean(ratios.iter().copied()));
+    format!("Of {} ratios {within} are at most {BOUND}; the median is {usual:.2}, the geometric mean {mean:.2}.\n", ratios.len())
 }
 
 /// How much longer it takes for 65,536 pairs than for 8,000.
@@ -60,7 +61,8 @@ fn growth(rows: &[Row]) -> String {
         parts.push(if all.len() == 1 { format!("{name} {least:.1}") } else { format!("{name} {least:.1} to {most:.1}") });
     }
     text += &parts.join(", ");
-    text += ".\nA block composed with a block passes through n√n pairs, so 8.2 times the pairs are 23 times the work; sorting takes n log n; all else is linear.\n";
+    text += ".\nA block composed with a block passes through n√n pairs, so 8.2 times the pairs are 23 times the work; merges and searches by halving \
+        take n log n; all else is linear at most.\n";
     text
 }
 
@@ -97,7 +99,7 @@ fn worst_table(worst: &[Worst]) -> String {
         );
     }
     if worst.iter().any(|w| w.times.ratio() > BOUND) {
-        text += &format!("\nAbove {BOUND}: {JOINED}.\n");
+        text += &format!("\nAbove {BOUND}: {OPEN}.\n");
     }
     text
 }

@@ -2,30 +2,18 @@
 
 use crate::algebra::Algebra;
 use crate::backtracking::Index;
-use crate::clock::{median, now};
+use crate::clock::median;
 use crate::drawings::Drawing;
 use crate::frame::Frame;
 use crate::proved::Proved;
 use crate::sqlite::{Database, Statement};
-
-/// The rows, one behind the other; or number and place of a refusal.
-pub type Rows<'r> = Result<&'r [u32], (u32, u32)>;
-
-pub trait Matcher {
-    fn ask(&mut self) -> Rows<'_>;
-}
+use crate::turns::{take_turns, timed, usual, Matcher, AMPLE};
 
 pub const NAMES: [&str; 4] = ["proved query", "SQLite", "backtracking", "unproved algebra"];
 pub const PROVED: usize = 0;
 pub const SQLITE: usize = 1;
 pub const BACKTRACKING: usize = 2;
 pub const UNPROVED: usize = 3;
-
-/// How often all is measured.
-pub const PASSES: usize = 3;
-
-/// More words of work than any drawing of the bench needs.
-pub const AMPLE: usize = 1 << 22;
 
 /// A frame as each matcher wants it.
 pub struct Ready<'f> {
@@ -74,6 +62,11 @@ impl Cell {
         median(self.turns.iter().map(|turn| turn[which] / turn[PROVED]).collect())
     }
 
+    /// Whether all that does not depend on the objects' numbers is the same.
+    pub fn is_like(&self, other: &Cell) -> bool {
+        (self.regions, self.rows, self.pairs, self.refused) == (other.regions, other.rows, other.pairs, other.refused)
+    }
+
     /// Asks all four, compares what they answer, and adds times for so many seconds.
     pub fn measure(&mut self, ready: &Ready, drawing: &Drawing, seconds: f64) {
         let drawing = drawing.on(ready.frame);
@@ -98,42 +91,6 @@ impl Cell {
         turns.extend(take_turns([&mut proved, &mut sqlite, &mut *search, &mut algebra], seconds));
         *self = Cell { regions, rows, pairs, refused, turns };
     }
-}
-
-/// Seconds of so many queries.
-fn timed(matcher: &mut dyn Matcher, times: usize) -> f64 {
-    let start = now();
-    for _ in 0..times {
-        std::hint::black_box(matcher.ask().map_or(0, |rows| rows.len()));
-    }
-    now() - start
-}
-
-/// Turns for so many seconds, three at least. Each matcher is asked as often as takes about a millisecond, and each goes first in its turn.
-pub fn take_turns<const N: usize>(mut matchers: [&mut dyn Matcher; N], seconds: f64) -> Vec<[f64; N]> {
-    let often = |matcher: &mut dyn Matcher| ((1e-3 / timed(matcher, 1).max(1e-7)) as usize).max(1);
-    let times = matchers.each_mut().map(|matcher| often(*matcher));
-    let start = now();
-    let mut turns: Vec<[f64; N]> = Vec::new();
-    while turns.len() < 3 || now() - start < seconds {
-        let mut turn = [0.0; N];
-        for k in 0..N {
-            let which = (k + turns.len()) % N;
-            turn[which] = timed(matchers[which], times[which]) / times[which] as f64;
-        }
-        turns.push(turn);
-    }
-    turns
-}
-
-/// Seconds of something that is done so often.
-pub fn usual<T>(times: usize, f: impl Fn() -> T) -> f64 {
-    let once = |_| {
-        let start = now();
-        std::hint::black_box(f());
-        now() - start
-    };
-    median((0..times).map(once).collect())
 }
 
 /// Seconds that it takes to make a frame ready, before any query: the check of the feed, which each proved query makes, a database, an index.

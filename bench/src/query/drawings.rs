@@ -55,6 +55,11 @@ impl Drawing {
         drawing
     }
 
+    /// Whether some node must be of a class that few regions are of.
+    pub fn is_selective(&self) -> bool {
+        self.nodes.iter().any(|node| node.class != REGION)
+    }
+
     /// The picked nodes, in order.
     pub fn picks(&self) -> Vec<usize> {
         (0..self.nodes.len()).filter(|&i| self.nodes[i].picked).collect()

@@ -16,6 +16,9 @@ pub const TOUCH: usize = 0;
 pub const ABOVE: usize = 1;
 pub const COVERS: usize = 2;
 
+/// The frames of the bench, by their regions.
+pub const SIZES: [usize; 4] = [50, 500, 1_300, 4_000];
+
 /// A table of a feed holds so many pairs.
 const CEILING: usize = 4096;
 
@@ -23,6 +26,8 @@ type Pairs = BTreeSet<(u32, u32)>;
 
 pub struct Frame {
     pub regions: usize,
+    /// every object's number is below this
+    pub objects: usize,
     pub classes: Vec<Vec<u32>>,
     pub labels: Vec<Vec<(u32, u32)>>,
     /// touching pairs stand in both directions
@@ -32,6 +37,42 @@ pub struct Frame {
     /// the cap of the bottle that was placed first; 0 where there is none
     pub known_cap: u32,
     pub feed: Vec<u32>,
+}
+
+/// Numbers for the regions of a frame, other than from 0 on, row by row; the same in every run.
+#[derive(Clone, Copy)]
+pub enum Numbers {
+    /// the same numbers in chance order
+    Shuffled,
+    /// chance numbers up to 65,535, in the same order
+    Spread,
+}
+
+impl Numbers {
+    /// The number of each of so many regions.
+    fn of(self, regions: usize) -> Vec<u32> {
+        let mut r = Random::new(regions as u64);
+        match self {
+            Numbers::Shuffled => {
+                let mut numbers: Vec<u32> = (0..regions as u32).collect();
+                (1..regions).rev().for_each(|i| numbers.swap(i, r.below(i + 1)));
+                numbers
+            }
+            Numbers::Spread => {
+                let mut numbers = BTreeSet::new();
+                while numbers.len() < regions {
+                    numbers.insert(r.below(65_536) as u32);
+                }
+                numbers.into_iter().collect()
+            }
+        }
+    }
+}
+
+fn sorted<T: Ord>(items: impl Iterator<Item = T>) -> Vec<T> {
+    let mut items: Vec<T> = items.collect();
+    items.sort_unstable();
+    items
 }
 
 /// A frame as it is laid out: region k stands in column k mod width, row k / width.
@@ -170,7 +211,18 @@ impl Frame {
         let classes: Vec<Vec<u32>> = layout.classes.into_iter().map(|c| c.into_iter().collect()).collect();
         assert!(classes.iter().map(Vec::len).chain(labels.iter().map(Vec::len)).all(|n| n <= CEILING), "a table is over its ceiling");
         let feed = words(&classes, &labels, None);
-        Frame { regions: layout.regions, classes, labels, both, neighbours, known_cap, feed }
+        Frame { regions: layout.regions, objects: layout.regions, classes, labels, both, neighbours, known_cap, feed }
+    }
+
+    /// The same frame with its objects numbered anew.
+    pub fn numbered(&self, numbers: Numbers) -> Self {
+        let to = numbers.of(self.regions);
+        let classes: Vec<Vec<u32>> = self.classes.iter().map(|c| sorted(c.iter().map(|&u| to[u as usize]))).collect();
+        let labels: Vec<Vec<_>> = self.labels.iter().map(|t| sorted(t.iter().map(|&(u, v)| (to[u as usize], to[v as usize])))).collect();
+        let objects = to.iter().max().map_or(0, |&last| last as usize + 1);
+        let known_cap = to[self.known_cap as usize];
+        let feed = words(&classes, &labels, None);
+        Frame { objects, classes, labels, known_cap, feed, ..*self }
     }
 
     /// The feed of the same frame in which `touch` is two-way, and has each touching pair once, in chance order.

@@ -1,17 +1,20 @@
-//! The whole query on frames of several sizes, beside SQLite, a backtracking matcher and the unproved algebra, in one process. Writes a page of
-//! figures and a plot to the two files that its arguments name; a third argument is the number of seconds for each figure. `bench/query` builds
-//! and runs it.
+//! The whole query on frames of several sizes, with dense numbers and with others, beside SQLite, a backtracking matcher and the unproved algebra,
+//! in one process. Writes a page of figures and a plot to the two files that its arguments name; a third argument is the number of seconds for each
+//! figure. `bench/query` builds and runs it.
 
 mod algebra;
 mod backtracking;
 mod contest;
 mod drawings;
 mod frame;
+mod numbers;
 mod page;
 mod plot;
 mod proved;
 mod reduction;
 mod sqlite;
+mod text;
+mod turns;
 mod two_way;
 
 // shared with the operators' bench and the tests
@@ -19,27 +22,36 @@ mod two_way;
 mod clock;
 #[path = "../figures.rs"]
 mod figures;
-#[path = "../peer.rs"]
+#[path = "../peer/mod.rs"]
 mod peer;
 #[allow(dead_code)]
 #[path = "../../../tests/host/src/random.rs"]
 mod random;
 
-use contest::{Cell, Ready, PASSES};
+use contest::{Cell, Ready};
 use drawings::Drawing;
-use frame::Frame;
-use two_way::{Feeds, Pair};
+use frame::{Frame, Numbers, SIZES};
+use turns::PASSES;
+use turns::Pair;
+use two_way::Feeds;
 
-const SIZES: [usize; 4] = [50, 500, 1_300, 4_000];
+/// The part of a figure's time that is spent on a frame whose numbers are not dense.
+const RENUMBERED: f64 = 0.4;
+
+/// For each drawing, a cell for each frame.
+type Cells = Vec<Vec<Cell>>;
 
 /// All that the page and the plot tell.
 pub struct Results {
     frames: Vec<Frame>,
     drawings: Vec<Drawing>,
-    /// for each drawing, a cell for each frame
-    cells: Vec<Vec<Cell>>,
+    /// on dense numbers: for each drawing, a cell for each frame
+    cells: Cells,
+    /// the same on shuffled numbers, and on spread ones
+    shuffled: Cells,
+    spread: Cells,
     /// each drawing where every table is empty
-    bare: Vec<Cell>,
+    bare: Cells,
     /// for each frame: the feed's check, SQLite's load, the index
     preparation: Vec<[f64; 3]>,
     touching: Touching,
@@ -58,34 +70,45 @@ fn stored_once(frames: &[Frame], drawings: &[Drawing], seconds: f64) -> Touching
     let mut pairs: Vec<Vec<Pair>> = drawings.iter().map(|_| feeds.iter().map(|_| Pair::default()).collect()).collect();
     for _ in 0..PASSES {
         for (drawing, pairs) in drawings.iter().zip(&mut pairs) {
-            feeds.iter().zip(pairs).for_each(|(feeds, pair)| pair.measure(feeds, drawing, seconds / PASSES as f64));
+            feeds.iter().zip(pairs).for_each(|(feeds, pair)| two_way::measure(pair, feeds, drawing, seconds / PASSES as f64));
         }
     }
     let words = |feeds: &Feeds| (feeds.frame.regions, [feeds.frame.feed.len(), feeds.once.len()], feeds.checks());
     Touching { feeds: feeds.iter().map(words).collect(), pairs }
 }
 
+/// Measures every drawing on every one of these frames once more.
+fn measure(frames: &[Frame], drawings: &[Drawing], cells: &mut Cells, seconds: f64) {
+    for (j, frame) in frames.iter().enumerate() {
+        let ready = Ready::new(frame);
+        for (drawing, cells) in drawings.iter().zip(&mut *cells) {
+            cells[j].measure(&ready, drawing, seconds);
+        }
+    }
+}
+
 fn measured(seconds: f64) -> Results {
     let (frames, drawings) = (SIZES.map(Frame::new), drawings::drawings());
-    let mut cells: Vec<Vec<Cell>> = drawings.iter().map(|_| SIZES.map(|_| Cell::default()).into()).collect();
-    let mut bare: Vec<Cell> = drawings.iter().map(|_| Cell::default()).collect();
-    let nothing = Frame::empty();
+    let numbered = |numbers| frames.each_ref().map(|frame| frame.numbered(numbers));
+    let [shuffled_frames, spread_frames] = [Numbers::Shuffled, Numbers::Spread].map(numbered);
+    let nothing = [Frame::empty()];
+    let blank = |frames: usize| drawings.iter().map(|_| (0..frames).map(|_| Cell::default()).collect()).collect();
+    let [mut cells, mut shuffled, mut spread, mut bare]: [Cells; 4] = [SIZES.len(), SIZES.len(), SIZES.len(), 1].map(blank);
+    let each = seconds / PASSES as f64;
     for pass in 1..=PASSES {
         eprintln!("pass {pass} of {PASSES}");
-        for (j, frame) in frames.iter().enumerate() {
-            let ready = Ready::new(frame);
-            for (i, drawing) in drawings.iter().enumerate() {
-                cells[i][j].measure(&ready, drawing, seconds / PASSES as f64);
-            }
-        }
-        let ready = Ready::new(&nothing);
-        for (i, drawing) in drawings.iter().enumerate() {
-            bare[i].measure(&ready, drawing, seconds / PASSES as f64 / 10.0);
+        measure(&frames, &drawings, &mut cells, each);
+        measure(&shuffled_frames, &drawings, &mut shuffled, each * RENUMBERED);
+        measure(&spread_frames, &drawings, &mut spread, each * RENUMBERED);
+        measure(&nothing, &drawings, &mut bare, each / 10.0);
+        for numbered in [&shuffled, &spread] {
+            let alike = cells.iter().flatten().zip(numbered.iter().flatten()).all(|(a, b)| a.is_like(b));
+            assert!(alike, "other numbers give other sizes of rows or registers");
         }
     }
     let preparation = frames.iter().map(contest::preparation).collect();
     let touching = stored_once(&frames, &drawings, seconds / 4.0);
-    Results { frames: frames.into(), drawings, cells, bare, preparation, touching }
+    Results { frames: frames.into(), drawings, cells, shuffled, spread, bare, preparation, touching }
 }
 
 fn main() {

@@ -3,9 +3,10 @@
 use crate::clock::median;
 use crate::contest::{Cell, BACKTRACKING, PROVED, SQLITE, UNPROVED};
 use crate::drawings::{Drawing, BOTTLE, CAP_FIXED};
-use crate::figures::{count, figure};
+use crate::figures::count;
 use crate::frame::{CLASSES, LABELS};
-use crate::{sqlite, Results};
+use crate::text::{micro, ratio, row};
+use crate::{numbers, sqlite, Results};
 
 const MATCHERS: &str = "\
 - *proved query*: `matcher_query`. It checks the feed and the drawing, translates the drawing, runs the translation and reads the rows. Each slice is lent with just the words
@@ -14,11 +15,11 @@ const MATCHERS: &str = "\
   statistics (`ANALYZE`) and in one without; the quicker one counts.
 - *backtracking*: a search in Rust. Next is the node with most edges to those before it, of these the one of the smallest class, or a fixed one. Candidates come from the shortest
   list of neighbours, which are kept by label in both directions. Once all picked nodes have their objects, one way to go on is enough. The rows are sorted, and equal ones dropped.
-- *unproved algebra*: the same translation, run and rows by the same algorithms in plain Rust (`bench/src/query/algebra.rs` over `bench/src/peer.rs`).
+- *unproved algebra*: the same translation, run and rows by the same algorithms in plain Rust (`bench/src/query/algebra.rs` over `bench/src/peer/`), which are told below.
 
 All four first gave the same rows, both algebras the same instructions and the same refusal; otherwise the bench fails. Then they take turns. A time is processor time, the median of the turns in three passes.
 **A ratio is the other's time to the proved query's, the median of the turns: above 1 the proved query is faster.** The tables and the statement of SQLite and the index and the order of nodes of
-the search are ready before the clock starts. The proved query starts from the words of feed and drawing each time. The last table tells what that spares the others.
+the search are ready before the clock starts. The proved query starts from the words of feed and drawing each time. What that spares the others is told under *Before the first query*.
 ";
 
 const FRAMES: &str = "\
@@ -41,25 +42,37 @@ same word for word, and so are all registers and rows; otherwise the bench fails
 of the proved query with each pair stored once to its time with both directions stored, the median of the turns: below 1 the two-way label is faster.**
 ";
 
+const SELECTIVE: &str = "\
+There SQLite begins at the few objects of a small class, or at a known one, goes on by its indexes, and is done after few look-ups. ";
+
+const SEARCH: &str = "\
+Document 01 fixes the program and the registers: every table is loaded as a whole; every combination writes two tags and tau for each pair of its table, and anew the edges at both ends and the \
+path of each picked node; all registers stay in the work slice, and their pairs, beside the rows, tell how much more is written. A search writes nothing but its rows, and begins where there is \
+least to try: on the bottle, the tray and the tree it looks at a few regions around a small class, the program at every touching pair. Where many embeddings share a row the program composes the \
+unpicked middles of a chain away, and a search goes through each of them.";
+
+const BESIDE_UNPROVED: &str = "\
+In each query the proved one takes its scratch from the stack and zeroes it, in three sizes: for work slices of up to 1,024 pairs, of up to 8,192, and for larger ones, whose registers \
+may have up to 65,536. The unproved one keeps its own from query to query. The proved translation hands the drawing on by value from step to step. What is paid so, whatever the frame, is in the next table; how \
+the operators differ is in [bench-run.md](bench-run.md).";
+
+/// The algorithms of both algebras.
+const KERNELS: &str = "\
+Both algebras work in the same ways:
+
+- *feed*: a pass over each table that tells only whether all its pairs pass; where not, a walk to the first that does not.
+- *composition* with a table of equal sides without gaps: on the left it cuts a part out of the other table, by two searches and a copy; on the right it picks the pairs whose right lies between
+  two numbers. With gaps, on the right: it picks the pairs whose right is found in it.
+- *other compositions*, where the first table has one pair for each left: each pair gives what is found as it stands. The pairs of a value in the second table are found by subtraction where it
+  has one pair for each left without gaps, else by an index in the scratch that has a word for each of its lefts, else by halving. Where the first table has more pairs for a left, they give the
+  union of what is found, by marks or by merges; it is found by an index with a word for each number of the range, or by halving.
+- *inverse*: by counts where the rights lie close, else by merges.
+- *intersection* of a table with one that has eight times as many pairs, or more: each pair is sought from the last place on, in steps that double, then by halving. Else by one pass over both.
+- *rows*: read as they stand where they ascend; else their places are sorted.
+";
+
 /// From this ratio on a query is called even.
 const EVEN: f64 = 0.9;
-
-fn row(cells: impl IntoIterator<Item = String>) -> String {
-    format!("| {} |\n", cells.into_iter().collect::<Vec<_>>().join(" | "))
-}
-
-/// Two digits or more.
-fn ratio(x: f64) -> String {
-    if x < 0.1 {
-        format!("{x:.3}")
-    } else {
-        figure(x)
-    }
-}
-
-fn micro(seconds: f64) -> String {
-    figure(seconds * 1e6)
-}
 
 fn frames(results: &Results) -> String {
     let names = LABELS.iter().chain(&CLASSES[1..]).map(|name| name.to_string());
@@ -142,14 +155,26 @@ fn outcome(results: &Results, which: usize) -> String {
     )
 }
 
+/// The queries with the least ratios, least first; or with the greatest, greatest first.
+fn extreme(results: &Results, which: usize, greatest: bool) -> String {
+    let mut queries = accepted(results);
+    queries.sort_by(|(_, a), (_, b)| a.ratio(which).total_cmp(&b.ratio(which)));
+    if greatest {
+        queries.reverse();
+    }
+    listed(&queries[..3], which)
+}
+
 fn beside_sqlite(results: &Results) -> String {
     let slower: Vec<_> = accepted(results).into_iter().filter(|(_, cell)| cell.ratio(SQLITE) < 1.0).collect();
+    let loses = if slower.is_empty() { String::from("nothing") } else { listed(&slower, SQLITE) };
+    let selective = !slower.is_empty() && slower.iter().all(|(drawing, _)| drawing.is_selective());
     format!(
-        "**SQLite**: {}. It loses on {}. There SQLite goes from the few objects of a small class, or from a known one, to their neighbours by its indexes, and is done after few look-ups. The program of \
-        document 01 copies every table that the drawing names before it looks at any, and the feed is checked in each query; on small frames it is the fixed cost of a query that counts (below). \
-        It gains most where a row has many embeddings, and where there are many rows.\n",
+        "**SQLite**: {}. It loses on {loses}. {}The program of document 01 copies every table that the drawing names before it looks at any, and the feed is checked in each query; what a query costs \
+        on an empty frame is in the next table. It gains most on {}.\n",
         outcome(results, SQLITE),
-        listed(&slower, SQLITE)
+        if selective { SELECTIVE } else { "" },
+        extreme(results, SQLITE, true)
     )
 }
 
@@ -157,12 +182,10 @@ fn beside_search(results: &Results) -> String {
     let even: Vec<_> = accepted(results).into_iter().filter(|(_, cell)| cell.ratio(BACKTRACKING) >= EVEN).collect();
     let even = if even.is_empty() { String::from("nothing") } else { listed(&even, BACKTRACKING) };
     format!(
-        "**Backtracking**: {}. Even or better, {EVEN} and above, is {even}. Document 01 fixes the program and the registers: every table is loaded as a whole; every combination writes two tags and \
-        tau for each pair of its table, and anew the edges at both ends and the path of each picked node; all registers stay in the work slice, and their pairs, beside the rows, tell how much more \
-        is written. A search writes nothing but its rows, and begins where there is least to try. So selective drawings lose most: on the bottle, the tray and the tree it looks at a few regions \
-        around a small class, the program at every touching pair. The algebra gains where many embeddings share a row: it composes the unpicked middles of a chain away, where a search goes \
-        through each of them.\n",
-        outcome(results, BACKTRACKING)
+        "**Backtracking**: {}. Even or better, {EVEN} and above, is {even}. {SEARCH} The ratio is least on {}, and greatest on {}.\n",
+        outcome(results, BACKTRACKING),
+        extreme(results, BACKTRACKING, false),
+        extreme(results, BACKTRACKING, true)
     )
 }
 
@@ -172,13 +195,7 @@ fn beside_unproved(results: &Results) -> String {
         format!("{} at {}", ratio(median(cells.map(|cell| cell.ratio(UNPROVED)).collect())), count(results.frames[i].regions))
     };
     let medians: Vec<String> = (0..results.frames.len()).map(at).collect();
-    format!(
-        "**Unproved algebra**: the median ratio by regions is {}. What differs most is paid in each query and does not grow (the next table): the proved query zeroes its scratch, two slices of \
-        65,536 words on the stack, where the unproved one keeps its own from query to query; and its translation hands the drawing on by value from step to step. Beyond that the operators differ \
-        as [bench-run.md](bench-run.md) has it: on large drawings nearly all time goes to compositions, most of them of a tag with an edge or a path; on the bottle and the tray it is the \
-        intersection of a large table with a small one.\n",
-        medians.join(", ")
-    )
+    format!("**Unproved algebra**: the median ratio by regions is {}. {BESIDE_UNPROVED}\n\n{KERNELS}", medians.join(", "))
 }
 
 fn refusals(results: &Results) -> String {
@@ -219,8 +236,8 @@ fn one_cap(results: &Results) -> String {
 
 fn fixed_cost(results: &Results) -> String {
     let mut text = String::from("| drawing | proved query, µs | unproved algebra, µs |\n|---|---:|---:|\n");
-    for (drawing, cell) in results.drawings.iter().zip(&results.bare) {
-        text += &row([drawing.name.into(), micro(cell.time(PROVED)), micro(cell.time(UNPROVED))]);
+    for (drawing, cells) in results.drawings.iter().zip(&results.bare) {
+        text += &row([drawing.name.into(), micro(cells[0].time(PROVED)), micro(cells[0].time(UNPROVED))]);
     }
     text
 }
@@ -279,6 +296,8 @@ pub fn page(results: &Results) -> String {
         &[beside_sqlite(results), beside_search(results), beside_unproved(results)].join("\n"),
         "\nThe fixed cost, as time of a query where all tables are empty:\n\n",
         &fixed_cost(results),
+        "\n## Other numbers\n\n",
+        &numbers::section(results),
         "\n## What a fixed node saves\n\n",
         ONE_CAP,
         "\n",

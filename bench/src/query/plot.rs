@@ -2,7 +2,8 @@
 
 use crate::contest::{Cell, NAMES, PROVED, UNPROVED};
 use crate::figures::count;
-use crate::{Results, SIZES};
+use crate::frame::SIZES;
+use crate::Results;
 
 const COLOURS: [&str; 4] = ["#0072b2", "#d55e00", "#009e73", "#8c8c8c"];
 

@@ -1,8 +1,8 @@
 //! SQLite in process and in memory, through a few functions of its C interface.
 
-use crate::contest::{Matcher, Rows};
 use crate::drawings::Drawing;
 use crate::frame::Frame;
+use crate::turns::{Matcher, Rows};
 use std::ffi::{c_char, c_int, c_void, CStr, CString};
 use std::marker::PhantomData;
 use std::ptr::{null, null_mut};

@@ -2,11 +2,10 @@
 //! the proved query's times on both.
 
 use crate::algebra::Algebra;
-use crate::clock::median;
-use crate::contest::{take_turns, usual, Matcher, AMPLE};
 use crate::drawings::Drawing;
 use crate::frame::{Frame, TOUCH};
 use crate::proved::Proved;
+use crate::turns::{usual, Matcher, Pair, AMPLE};
 
 /// A frame as both feeds tell it: both directions stored, and each pair once.
 pub struct Feeds<'f> {
@@ -28,46 +27,26 @@ impl<'f> Feeds<'f> {
     }
 }
 
-/// What is known of one drawing on one frame.
-#[derive(Default)]
-pub struct Pair {
-    pub regions: usize,
-    pub rows: usize,
-    pub refused: Option<(u32, u32)>,
-    turns: Vec<[f64; 2]>,
-}
+/// Asks over both feeds, compares rows, instructions and every register, and adds times for so many seconds: with both directions stored, and
+/// with each pair once.
+pub fn measure(pair: &mut Pair, feeds: &Feeds, drawing: &Drawing, seconds: f64) {
+    let (name, words) = (drawing.name, drawing.on(feeds.frame).words());
+    let mut unproved = [&feeds.frame.feed, &feeds.once].map(|feed| Algebra::new(feed, &words, AMPLE));
+    let answers = unproved.each_mut().map(|algebra| algebra.ask().map(<[u32]>::to_vec));
+    assert!(answers[0] == answers[1], "{name}: the two feeds give different rows");
+    let [both, once] = &mut unproved;
+    assert!(both.reduction.list == once.reduction.list, "{name}: the two feeds give different instructions");
+    assert!(both.work == once.work, "{name}: the two feeds give different registers");
 
-impl Pair {
-    /// Seconds of a query: both directions stored, and each pair once.
-    pub fn times(&self) -> [f64; 2] {
-        [0, 1].map(|which| median(self.turns.iter().map(|turn| turn[which]).collect()))
+    let (answer, list) = (&answers[0], &both.reduction.list);
+    let refused = answer.as_ref().err().copied();
+    let work = both.fit(refused.map_or(list.len() / 3, |(_, place)| place as usize));
+    let row_words = answer.as_ref().map_or(0, Vec::len);
+    let mut proved = [&feeds.frame.feed, &feeds.once].map(|feed| Proved::new(feed, &words, both.reduction.list.len(), work, row_words));
+    for one in &mut proved {
+        assert!(one.ask().map(<[u32]>::to_vec) == *answer, "{name}: the proved query and the unproved algebra differ");
     }
-
-    /// The time with each pair stored once to that with both directions: the median of the turns.
-    pub fn ratio(&self) -> f64 {
-        median(self.turns.iter().map(|turn| turn[1] / turn[0]).collect())
-    }
-
-    /// Asks over both feeds, compares rows, instructions and every register, and adds times for so many seconds.
-    pub fn measure(&mut self, feeds: &Feeds, drawing: &Drawing, seconds: f64) {
-        let (name, words) = (drawing.name, drawing.on(feeds.frame).words());
-        let mut unproved = [&feeds.frame.feed, &feeds.once].map(|feed| Algebra::new(feed, &words, AMPLE));
-        let answers = unproved.each_mut().map(|algebra| algebra.ask().map(<[u32]>::to_vec));
-        assert!(answers[0] == answers[1], "{name}: the two feeds give different rows");
-        let [both, once] = &mut unproved;
-        assert!(both.reduction.list == once.reduction.list, "{name}: the two feeds give different instructions");
-        assert!(both.work == once.work, "{name}: the two feeds give different registers");
-
-        let (answer, list) = (&answers[0], &both.reduction.list);
-        let refused = answer.as_ref().err().copied();
-        let work = both.fit(refused.map_or(list.len() / 3, |(_, place)| place as usize));
-        let row_words = answer.as_ref().map_or(0, Vec::len);
-        let mut proved = [&feeds.frame.feed, &feeds.once].map(|feed| Proved::new(feed, &words, both.reduction.list.len(), work, row_words));
-        for one in &mut proved {
-            assert!(one.ask().map(<[u32]>::to_vec) == *answer, "{name}: the proved query and the unproved algebra differ");
-        }
-        let [first, second] = &mut proved;
-        self.turns.extend(take_turns([first, second], seconds));
-        (self.regions, self.rows, self.refused) = (feeds.frame.regions, row_words / drawing.picks().len(), refused);
-    }
+    let [first, second] = &mut proved;
+    pair.add([first, second], seconds);
+    (pair.regions, pair.rows, pair.refused) = (feeds.frame.regions, row_words / drawing.picks().len(), refused);
 }

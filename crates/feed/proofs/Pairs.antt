@@ -3,21 +3,20 @@
 -- In order: the comparison of two pairs; the pair before a pair; the check of a pair; the check of a table, from one of its pairs on.
 -- Assumes nothing.
 use mathlib.Core.Path.{_≡_, refl, sym}
-use mathlib.Core.Bool.{Bool, true, false, not, _&&_, _||_}
+use mathlib.Core.Bool.{Bool, true, false, _&&_}
 use mathlib.Core.List.{List, [], _∷_}
 use Prim.Native.Nat.{ℕ, zero, suc, _+_, _*_, _-_, _<_, _≤_, compare, Ordering, Ordering·lt, Ordering·eq, Ordering·gt}
 use native.Mathlib.Numerals.{add-one}
 use native.Mathlib.Omega.{arith}
-use lib.Dec.{eqb, leb, ltb}
+use lib.Dec.{ltb}
 use lib.ListN.{length, take, drop}
 use borrow.Author.Tests.{lt-ltb, le-ltb}
-use Rattle.limits.specs.Limits.{largestObject}
 use Rattle.tables.specs.declared.Pair.{Pair}
 use Rattle.tables.specs.Order.{comparePair, isLess, next}
 use Rattle.answers.specs.Verdict.{Verdict, accepted, refused, unless, _then_}
 use Rattle.tables.proofs.Orders.{compare-lt, compare-eq, compare-gt}
 use Rattle.feed.specs.Feed.{pairsOf, above, checkPair, checkPairs}
-use Rattle.feed.specs.inner.Parts.{pairFrom, before}
+use Rattle.feed.specs.inner.Parts.{pairFrom, before, Ordered, Even}
 use Rattle.feed.proofs.Words.{pairs-cons}
 
 -- the comparison of two pairs
@@ -43,7 +42,7 @@ module _ (p q : Pair) where
   left-same h = rw (compare-eq (p .left) (q .left) .1 h) (less-is (p .right) (q .right))
 
 -- the pair before a pair
-before-one : (feed : List ℕ) (at j : ℕ) → (j ≡ 0 → ⊥) → before feed at j ≡ pairFrom feed (at + 2 * j - 2) ∷ []
+pub before-one : (feed : List ℕ) (at j : ℕ) → (j ≡ 0 → ⊥) → before feed at j ≡ pairFrom feed (at + 2 * j - 2) ∷ []
 unfolding before
 before-one feed at zero n = absurd (n refl)
 before-one feed at (suc j) n = let e : at + 2 * suc j - 2 ≡ at + 2 * j = omega arith in rw e
@@ -58,12 +57,6 @@ module _ (feed : List ℕ) (at j : ℕ) (p : Pair) where
   above-one n = rw (before-one feed at j n)
 
 -- the check of a pair
-abbrev pub Ordered : List Pair → Pair → Bool
-Ordered b p = leb (p .left) largestObject && leb (p .right) largestObject && above b p
-
-abbrev pub Even : Bool → Pair → Bool
-Even class p = not class || eqb (p .left) (p .right)
-
 module _ (class : Bool) (place : ℕ) (b : List Pair) (p : Pair) where
   pub pair-passes : (o : Bool) → o ≡ Ordered b p → o && Even class p ≡ true → accepted ≡ checkPair class place b p
   unfolding checkPair unless _then_

@@ -17,7 +17,10 @@ ghost use Rattle.tables.specs.Lists.{total};
 ghost use Rattle.answers.specs.Answers.{verdictOf};
 ghost use Rattle.limits.specs.Limits.{largestObject, twoWayMark};
 ghost use Rattle.feed.specs.Feed.{classCount, labelCount, tableCount, countWord, isMarked, sizeOf, counts, isTwoWay, tables, classTable, labelTable, pairsOf, above, checkCounts, checkPair, checkPairs, checkTables, checkFeed};
-ghost use Rattle.feed.specs.inner.Parts.{pairFrom, before, PairIn, TableIn, Counted, HasTable, countsFound, Exact, Among, SpanOf};
+ghost use Rattle.feed.specs.inner.Parts.{pairFrom, before, Packed, AllOrdered, AllEven, Passes, PairIn, TableIn, Counted, HasTable, countsFound, Exact, Among, SpanOf};
+
+// How many objects there may be: a pair of objects is one number in a word.
+const OBJECTS: u32 = OBJECT + 1;
 
 // What the check of the counts finds.
 enum Counts {
@@ -123,8 +126,76 @@ fn check_pair(feed: &[u32], class: bool, at: usize, j: usize) -> Answer
     Answer::Ascent(i as u32)
 }
 
-// The check of a table of `count` pairs that starts at `at`.
-fn check_pairs(feed: &[u32], class: bool, at: usize, count: usize) -> Answer
+// ---- tables passed at one go
+
+// A pair of objects as one number.
+fn packed(p: Pair) -> u32
+    ensures { λ r. ⌜ Packed p r ⌝ }
+{
+    p.left % OBJECTS * OBJECTS + p.right % OBJECTS
+}
+
+// Whether p has values of at most 65,535.
+fn is_small(p: Pair) -> bool
+    ensures { λ r. ⌜ r ≡ (leb (p .left) largestObject && leb (p .right) largestObject) ⌝ }
+{
+    (p.left <= OBJECT) & (p.right <= OBJECT)
+}
+
+// Whether each of the first `count` pairs of a table that starts at `at` has values of at most 65,535 and is above the pair before it. No
+// pair is a reason to stop: a loop without a second way out is done for several pairs at a time.
+fn all_ordered(feed: &[u32], at: usize, count: usize) -> bool
+    requires { ⌜ TableIn (now feed) at count ⌝ }
+    ensures { λ r. ⌜ AllOrdered (now (feed .entry)) at count r ⌝ }
+{
+    if count == 0 {
+        return true;
+    }
+    let first = pair_from(feed, at);
+    let mut good = is_small(first);
+    let mut last = packed(first);
+    let mut j = 1;
+    while j < count {
+        let p = pair_from(feed, at + 2 * j);
+        let number = packed(p);
+        good = good & is_small(p) & (last < number);
+        last = number;
+        j += 1;
+    }
+    good
+}
+
+// Whether each of them has equal sides.
+fn all_even(feed: &[u32], at: usize, count: usize) -> bool
+    requires { ⌜ TableIn (now feed) at count ⌝ }
+    ensures { λ r. ⌜ AllEven (now (feed .entry)) at count r ⌝ }
+{
+    let mut good = true;
+    let mut j = 0;
+    while j < count {
+        let p = pair_from(feed, at + 2 * j);
+        good = good & (p.left == p.right);
+        j += 1;
+    }
+    good
+}
+
+// Whether the check of a table of `count` pairs that starts at `at` finds no fault.
+fn passes(feed: &[u32], class: bool, at: usize, count: usize) -> bool
+    requires { ⌜ TableIn (now feed) at count ⌝ }
+    ensures { λ r. ⌜ Passes (now (feed .entry)) class at count r ⌝ }
+{
+    let ordered = all_ordered(feed, at, count);
+    if class {
+        return ordered & all_even(feed, at, count);
+    }
+    ordered
+}
+
+// ---- tables checked
+
+// The check of a table of `count` pairs that starts at `at`, pair by pair up to the first fault.
+fn walk_pairs(feed: &[u32], class: bool, at: usize, count: usize) -> Answer
     requires { ⌜ TableIn (now feed) at count ⌝ }
     ensures { λ r. ⌜ verdictOf r ≡ checkPairs class at [] (take count (pairsOf (drop at (now (feed .entry))))) ⌝ }
 {
@@ -137,6 +208,17 @@ fn check_pairs(feed: &[u32], class: bool, at: usize, count: usize) -> Answer
         j += 1;
     }
     Answer::Accepted
+}
+
+// The check of a table of `count` pairs that starts at `at`.
+fn check_pairs(feed: &[u32], class: bool, at: usize, count: usize) -> Answer
+    requires { ⌜ TableIn (now feed) at count ⌝ }
+    ensures { λ r. ⌜ verdictOf r ≡ checkPairs class at [] (take count (pairsOf (drop at (now (feed .entry))))) ⌝ }
+{
+    if passes(feed, class, at, count) {
+        return Answer::Accepted;
+    }
+    walk_pairs(feed, class, at, count)
 }
 
 // How many tables a feed has, classes and labels.

@@ -87,8 +87,28 @@ fn large_runs() -> Vec<Words> {
     lists.map(|list| (feed.clone(), list)).into()
 }
 
+/// So many objects in a ring, the numbers of neighbours so far apart: each leads to the next ones.
+fn ring(objects: u32, apart: u32, next: u32) -> Table {
+    let to = |k: u32| (1..=next).map(move |d| (apart * k, apart * ((k + d) % objects)));
+    (0..objects).flat_map(to).collect()
+}
+
+/// A chain over a ring, with its middle not picked: a composition by groups, by an index of its own.
+fn ring_query() -> Words {
+    let class: Table = (0..1_024).map(|k| (16 * k, 16 * k)).collect();
+    let feed = cases::feed_with(&[class], &[ring(1_024, 16, 4)], &[false]);
+    (feed, drawing(&[(0, 1), (0, 0), (0, 1)], &[(0, 0, 1), (0, 1, 2)]))
+}
+
+/// The same as a sheet.
+fn ring_sheet() -> Vec<u8> {
+    let class: String = (0..300).map(|k| format!("c {}\n", 20 * k)).collect();
+    let label: String = ring(300, 20, 3).iter().map(|(u, v)| format!("l {u} {v}\n")).collect();
+    format!("class object\n{class}\nlabel from to\n{label}\nnode class pick fixed\na c 1 -\nb c 0 -\nd c 1 -\n\nedge source target\nl a b\nl b d\n").into_bytes()
+}
+
 /// 65,536 rows by cross; the same by a chain whose ends come out in the other order, so that they must be sorted; 12 nodes with 24 edges, and the
-/// same with every node fixed; an edge of a two-way label of 4,096 pairs.
+/// same with every node fixed; an edge of a two-way label of 4,096 pairs; a chain over a ring.
 fn large_queries() -> Vec<Words> {
     let spokes: Table = (0..256).map(|i| (7, i)).collect();
     let all: Table = [(0, 0), (0, 1), (1, 0), (1, 1)].into();
@@ -102,7 +122,7 @@ fn large_queries() -> Vec<Words> {
         fixed_drawing(&[(2, 1, 1); 12], &around),
         drawing(&[(0, 1), (0, 1)], &[(2, 0, 1)]),
     ];
-    drawings.map(|drawing| (feed.clone(), drawing)).into()
+    drawings.map(|drawing| (feed.clone(), drawing)).into_iter().chain([ring_query()]).collect()
 }
 
 /// The number of a check.
@@ -184,7 +204,7 @@ fn check<T: Sync>(tally: &mut Tally, name: &'static str, cases: &[T], call: fn(&
 }
 
 pub fn all(tally: &mut Tally) {
-    let sheets: Vec<Vec<u8>> = sheets::at_ceilings().into_iter().map(|case| case.sheet).collect();
+    let sheets: Vec<Vec<u8>> = sheets::at_ceilings().into_iter().map(|case| case.sheet).chain([ring_sheet()]).collect();
     let paged: Vec<Vec<u8>> = pages::in_order().into_iter().map(|case| case.1).chain(sheets.clone()).collect();
     let (runs, queries) = (large_runs(), large_queries());
     let measured = vec![

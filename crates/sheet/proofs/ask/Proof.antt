@@ -9,7 +9,7 @@ use Rattle.sheet.proofs.ask.Tie as tie
 
 query-built-requires : tie.Need-query-built-requires
 unfolding roomOf
-query-built-requires c κs = record { scratch = record { first = omega arith; second = omega arith; twice = omega arith; once = omega arith }; many = omega arith }
+query-built-requires c κs = record { scratch = record { first = omega arith; second = omega arith }; both = record { first = omega arith; second = omega arith }; many = omega arith }
 
 returns : tie.Need-returns
 unfolding ownSlices
