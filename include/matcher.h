@@ -14,8 +14,8 @@
  * - The stack has room for the call. In KiB, measured and rounded up:
  *
  *       matcher_check_feed       1
- *       matcher_check_drawing    4
- *       matcher_translate       26
+ *       matcher_check_drawing    1
+ *       matcher_translate       22
  *       matcher_run            800
  *       matcher_query          820
  *       matcher_sheet_query    584
@@ -30,10 +30,10 @@
 #include <stddef.h>
 #include <stdint.h>
 
-#define MATCHER_VERSION "3.0.1"
+#define MATCHER_VERSION "3.0.2"
 #define MATCHER_VERSION_MAJOR 3
 #define MATCHER_VERSION_MINOR 0
-#define MATCHER_VERSION_PATCH 1
+#define MATCHER_VERSION_PATCH 2
 
 /* Words that take every translation: 876 instructions. */
 #define MATCHER_LIST_WORDS 2628

@@ -35,13 +35,13 @@ const CALLS: &str = "nothing is moved, so what counts is the calls, down to halv
 const WAYS: &str = "the way of finding is asked at each look-up; the peer has a loop for each way";
 const INDEX: &str = "the index is zeroed before it is filled, and the way of finding is asked at each look-up; the peer keeps its index, and has a loop for \
     each way";
-const PART: &str = "a part of the other table is copied pair by pair; the peer copies it as a whole";
+const PART: &str = "a part of the other table is copied word by word; the peer copies it as a whole";
 pub const OPEN: &str = "both take the same steps; where the time goes was not looked into";
 const FORETOLD: &str = "the merge picks and does not branch, so each step waits for the one before; the peer branches, which is faster where \
     the branch is foretold and slower where it is not, and copies the rest of a table as a whole";
 const LAST: &str = "a left value is written where it stands for the last time, so each step looks at two pairs and for the end of the table";
 const GROUP: &str = "the group is copied pair by pair; the peer copies it as a whole";
-const TURNED: &str = "the turned pairs are gathered by calls, down to halves of one pair; the room is tested at each pair of the merge";
+const TURNED: &str = "both tables are merged as numbers in the scratch and then written as pairs; the peer writes the pairs as it merges";
 const SHORT: &str = "a loop of one or two cycles a pair, for which the place that the linker gives it counts as much as its text";
 
 /// Adds the operands of about so many pairs to a program, and gives the operator's two words.
@@ -246,13 +246,14 @@ fn cases() -> Vec<Case> {
         case(12, "four rights a left, at random", LAST, |p, r, n| one(p, &ordinary(r, n))),
         case(12, "one right a left", LAST, |p, _, n| one(p, &graph(n, |i| i))),
         case(12, "one left", LAST, |p, _, n| one(p, &block(1, n as u32))),
-        case(13, "four lefts a right, at random", CALLS, |p, r, n| one(p, &ordinary(r, n))),
-        case(13, "rights shuffled", CALLS, |p, r, n| {
+        case(13, "four lefts a right, at random", OPEN, |p, r, n| one(p, &ordinary(r, n))),
+        case(13, "rights shuffled", OPEN, |p, r, n| {
             let to = shuffled(r, n);
             one(p, &graph(n, |i| to[i as usize]))
         }),
-        case(13, "rights ascend with the lefts", CALLS, |p, _, n| one(p, &graph(n, |i| i))),
-        case(13, "sixteen rights", CALLS, |p, r, n| one(p, &graph(n, |_| r.below(16) as u32))),
+        case(13, "rights ascend with the lefts", OPEN, |p, _, n| one(p, &graph(n, |i| i))),
+        case(13, "sixteen rights", OPEN, |p, r, n| one(p, &graph(n, |_| r.below(16) as u32))),
+        case(13, "rights spread wide, as tags of two tables", CALLS, two_tags),
         case(14, "half of the pairs", GROUP, |p, _, n| (one(p, &block(2, n as u32 / 2)).0, 1)),
         case(14, "all of the pairs", GROUP, |p, _, n| (one(p, &block(1, n as u32)).0, 0)),
         case(15, "half of the pairs, at random", SHORT, |p, r, n| (one(p, &graph(n, |_| r.below(2) as u32)).0, 1)),

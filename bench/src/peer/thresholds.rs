@@ -22,7 +22,7 @@ pub const MARK_NUMBERS: usize = 12;
 /// Each mixed number is worth clearing and reading so many words.
 pub const MARK_WORTH: usize = 12;
 
-/// Inverse: the rights are counted where they span at most so many times the pairs.
+/// Inverse, right values, a load both ways: the rights are counted where they span at most so many times the pairs.
 pub const COUNT_SPREAD: usize = 8;
 
 /// Intersection and difference: the pairs of one table are sought in the other where that has so many times as many.

@@ -52,8 +52,7 @@ least to try: on the bottle, the tray and the tree it looks at a few regions aro
 unpicked middles of a chain away, and a search goes through each of them.";
 
 const BESIDE_UNPROVED: &str = "\
-In each query the proved one takes its scratch from the stack and zeroes it, in three sizes: for work slices of up to 1,024 pairs, of up to 8,192, and for larger ones, whose registers \
-may have up to 65,536. The unproved one keeps its own from query to query. The proved translation hands the drawing on by value from step to step. What is paid so, whatever the frame, is in the next table; how \
+In each query the proved one takes its scratch from the stack and zeroes it, in six lengths, from 1,024 words to 65,536, by the pairs that the work slice takes. The unproved one keeps its own from query to query. The proved translation hands the drawing on by value from step to step. What is paid so, whatever the frame, is in the next table; how \
 the operators differ is in [bench-run.md](bench-run.md).";
 
 /// The algorithms of both algebras.

@@ -6,11 +6,13 @@ use crate::Node;
 use crate::words::EDGE_WORDS;
 use crate::words::FIXED;
 use crate::words::HEAD_WORDS;
+use crate::words::MOST_WORDS;
 use crate::words::NODE_WORDS;
 use crate::words::PICK;
 use crate::words::SOURCE;
 use crate::words::TARGET;
-use crate::words::read_drawing;
+use crate::words::read_edge;
+use crate::words::read_node;
 use crate::words::right_length;
 use answers::Answer;
 use feed::class_count;
@@ -18,13 +20,14 @@ use feed::label_count;
 use limits::ANY_OBJECT;
 ghost use mathlib.Core.Path.{_≡_};
 ghost use Prim.Native.Nat.{_+_, _*_, _≤_, _<_};
-ghost use lib.ListN.{length};
+ghost use lib.ListN.{length, drop};
 ghost use Rattle.limits.specs.Limits.{mostNodes, mostEdges};
 ghost use Rattle.tables.specs.Lists.{any};
 ghost use Rattle.answers.specs.Verdict.{_then_};
 ghost use Rattle.answers.specs.Answers.{verdictOf};
-ghost use Rattle.drawing.specs.Drawing.{headWidth, nodeWidth, edgeWidth, edgesStart, wordCount, isPicked, drawingWords, patternOf, checkNode, checkEdge, checkEach, checkLength, checkPattern, checkDrawing};
+ghost use Rattle.drawing.specs.Drawing.{headWidth, nodeWidth, edgeWidth, edgesStart, wordCount, isPicked, nodeOf, edgeOf, drawingWords, readEach, patternOf, checkNode, checkEdge, checkEach, checkLength, checkPattern, checkDrawing};
 ghost use Rattle.drawing.specs.Builder.{view};
+ghost use Rattle.drawing.specs.inner.Parts.{Sized, Checkable};
 
 // The node whose words start at `at`.
 fn check_node(v: Node, at: usize, classes: u32) -> Answer
@@ -60,15 +63,16 @@ fn check_edge(x: Edge, at: usize, labels: u32, n: usize) -> Answer
     Answer::Accepted
 }
 
-// The nodes, in order.
-fn check_nodes(d: Drawing, classes: u32) -> Answer
-    ensures { λ r. ⌜ verdictOf r ≡ checkEach (checkNode classes) nodeWidth headWidth (view d .nodes) ⌝ }
+// The n nodes of words with e edges behind them, in order.
+fn check_nodes(words: &[u32], n: usize, e: usize, classes: u32) -> Answer
+    requires { ⌜ Sized (now words) n e ⌝ }
+    ensures { λ r. ⌜ verdictOf r ≡ checkEach (checkNode classes) nodeWidth headWidth (readEach nodeOf nodeWidth n (drop headWidth (now (words .entry)))) ⌝ }
 {
-    let n = d.node_count();
     let mut i = 0;
     while i < n {
-        let v = d.nodes[i];
-        let found = check_node(v, HEAD_WORDS + NODE_WORDS * i, classes);
+        let at = HEAD_WORDS + NODE_WORDS * i;
+        let v = read_node(words, at);
+        let found = check_node(v, at, classes);
         i += 1;
         let Answer::Accepted = found else {
             return found;
@@ -77,16 +81,16 @@ fn check_nodes(d: Drawing, classes: u32) -> Answer
     Answer::Accepted
 }
 
-// The edges, in order, their words standing behind those of the nodes.
-fn check_edges(d: Drawing, labels: u32) -> Answer
-    ensures { λ r. ⌜ verdictOf r ≡ checkEach (checkEdge labels (length (view d .nodes))) edgeWidth (edgesStart (length (view d .nodes))) (view d .edges) ⌝ }
+// The e edges behind n nodes, in order.
+fn check_edges(words: &[u32], n: usize, e: usize, labels: u32) -> Answer
+    requires { ⌜ Sized (now words) n e ⌝ }
+    ensures { λ r. ⌜ verdictOf r ≡ checkEach (checkEdge labels n) edgeWidth (edgesStart n) (readEach edgeOf edgeWidth e (drop (edgesStart n) (now (words .entry)))) ⌝ }
 {
-    let n = d.node_count();
-    let e = d.edge_count();
     let mut i = 0;
     while i < e {
-        let x = d.edges[i];
-        let found = check_edge(x, HEAD_WORDS + NODE_WORDS * n + EDGE_WORDS * i, labels, n);
+        let at = HEAD_WORDS + NODE_WORDS * n + EDGE_WORDS * i;
+        let x = read_edge(words, at);
+        let found = check_edge(x, at, labels, n);
         i += 1;
         let Answer::Accepted = found else {
             return found;
@@ -95,14 +99,14 @@ fn check_edges(d: Drawing, labels: u32) -> Answer
     Answer::Accepted
 }
 
-// Whether one of the nodes is picked.
-fn has_pick(d: Drawing) -> bool
-    ensures { λ r. ⌜ r ≡ any isPicked (view d .nodes) ⌝ }
+// Whether one of the n nodes of words with e edges behind them is picked.
+fn has_pick(words: &[u32], n: usize, e: usize) -> bool
+    requires { ⌜ Sized (now words) n e ⌝ }
+    ensures { λ r. ⌜ r ≡ any isPicked (readEach nodeOf nodeWidth n (drop headWidth (now (words .entry)))) ⌝ }
 {
-    let n = d.node_count();
     let mut i = 0;
     while i < n {
-        let v = d.nodes[i];
+        let v = read_node(words, HEAD_WORDS + NODE_WORDS * i);
         i += 1;
         if v.pick == 1 {
             return true;
@@ -111,20 +115,22 @@ fn has_pick(d: Drawing) -> bool
     false
 }
 
-// The check of what a drawing shows. Of the feed only the two counts are read.
-fn check_pattern(feed: &[u32], d: Drawing) -> Answer
-    requires { ⌜ 2 ≤ length (now feed) ⌝ }
-    ensures { λ r. ⌜ verdictOf r ≡ checkPattern (now (feed .entry)) (view d) ⌝ }
+// The check of what words of the right length show. Of the feed only the two counts are read.
+fn check_pattern(feed: &[u32], words: &[u32]) -> Answer
+    requires { ⌜ Checkable (now feed) (now words) ⌝ }
+    ensures { λ r. ⌜ verdictOf r ≡ checkPattern (now (feed .entry)) (patternOf (now (words .entry))) ⌝ }
 {
-    let nodes = check_nodes(d, class_count(feed));
+    let n = words[0] as usize;
+    let e = words[1] as usize;
+    let nodes = check_nodes(words, n, e, class_count(feed));
     let Answer::Accepted = nodes else {
         return nodes;
     };
-    let edges = check_edges(d, label_count(feed));
+    let edges = check_edges(words, n, e, label_count(feed));
     let Answer::Accepted = edges else {
         return edges;
     };
-    if has_pick(d) {
+    if has_pick(words, n, e) {
         return Answer::Accepted;
     }
     Answer::Unpicked
@@ -136,10 +142,11 @@ fn check_words(feed: &[u32], words: &[u32]) -> Answer
     ensures { λ r. ⌜ verdictOf r ≡ (checkLength (now (words .entry)) then checkPattern (now (feed .entry)) (patternOf (now (words .entry)))) ⌝ }
 {
     if right_length(words) {
-        return check_pattern(feed, read_drawing(words));
+        return check_pattern(feed, words);
     }
     Answer::DrawingLength
 }
+
 // The check of a feed, then of the words of a drawing.
 pub fn check_drawing(feed: &[u32], words: &[u32]) -> Answer
     ensures { λ r. ⌜ verdictOf r ≡ checkDrawing (now (feed .entry)) (now (words .entry)) ⌝ }
@@ -151,16 +158,11 @@ pub fn check_drawing(feed: &[u32], words: &[u32]) -> Answer
     check_words(feed, words)
 }
 
-// The check of a feed, then of a drawing that was built: what its words would be told.
+// The check of a feed, then of a drawing that was built: what its words are told.
 pub fn check_built(feed: &[u32], d: Drawing) -> Answer
     ensures { λ r. ⌜ verdictOf r ≡ checkDrawing (now (feed .entry)) (drawingWords (view d)) ⌝ }
 {
-    let found = feed::check_feed(feed);
-    let Answer::Accepted = found else {
-        return found;
-    };
-    if d.node_count() < 1 {
-        return Answer::DrawingLength;
-    }
-    check_pattern(feed, d)
+    let mut words = [0u32; MOST_WORDS];
+    let n = d.write(&mut words);
+    check_drawing(feed, &words[0..n])
 }

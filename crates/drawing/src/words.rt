@@ -13,7 +13,7 @@ ghost use Rattle.answers.specs.Verdict.{accepted, unless};
 ghost use Rattle.tables.specs.inner.Words.{Put};
 ghost use Rattle.drawing.specs.Drawing.{headWidth, nodeWidth, edgeWidth, nodeOf, edgeOf, nodeWords, edgeWords, drawingWords, readEach, checkLength};
 ghost use Rattle.drawing.specs.Builder.{emptyDrawing, view, WrittenOut};
-ghost use Rattle.drawing.specs.inner.Parts.{addNodes, addEdges, Sized, Read};
+ghost use Rattle.drawing.specs.inner.Parts.{addNodes, addEdges, Sized, EdgesLeft, Read};
 
 // ---- the layout
 
@@ -28,7 +28,7 @@ pub const PICK: usize = 1;
 pub const FIXED: usize = 2;
 
 // The node whose words start at `at`.
-fn read_node(words: &[u32], at: usize) -> Node
+pub fn read_node(words: &[u32], at: usize) -> Node
     requires { ⌜ at + nodeWidth ≤ length (now words) ⌝ }
     ensures { λ r. ⌜ r ≡ nodeOf (drop at (now (words .entry))) ⌝ }
 {
@@ -54,8 +54,13 @@ pub const SOURCE: usize = 1;
 
 pub const TARGET: usize = 2;
 
+// Those of the largest drawing.
+pub const MOST_WORDS: usize = HEAD_WORDS
+    + NODE_WORDS * Drawing::NODES
+    + EDGE_WORDS * Drawing::EDGES;
+
 // The edge whose words start at `at`.
-fn read_edge(words: &[u32], at: usize) -> Edge
+pub fn read_edge(words: &[u32], at: usize) -> Edge
     requires { ⌜ at + edgeWidth ≤ length (now words) ⌝ }
     ensures { λ r. ⌜ r ≡ edgeOf (drop at (now (words .entry))) ⌝ }
 {
@@ -105,26 +110,24 @@ fn read_nodes(words: &[u32], n: usize, e: usize) -> Drawing
     let mut drawing = Drawing::empty();
     let mut i = 0;
     while i < n {
-        let v = read_node(words, HEAD_WORDS + NODE_WORDS * i);
-        let built = drawing.with_node(v.class, v.pick, v.fixed);
-        drawing = built.drawing;
+        drawing.nodes[i] = read_node(words, HEAD_WORDS + NODE_WORDS * i);
         i += 1;
+        drawing.n = i;
     }
     drawing
 }
 
-// The e edges behind n nodes, added to a drawing.
+// The e edges behind n nodes, added to a drawing that has no edge.
 fn read_edges(words: &[u32], n: usize, e: usize, nodes: Drawing) -> Drawing
-    requires { ⌜ Sized (now words) n e ⌝ }
+    requires { ⌜ EdgesLeft (now words) n e nodes ⌝ }
     ensures { λ r. ⌜ r ≡ addEdges nodes (readEach edgeOf edgeWidth e (drop (nodeWidth * n) (drop headWidth (now (words .entry))))) ⌝ }
 {
     let mut drawing = nodes;
     let mut i = 0;
     while i < e {
-        let x = read_edge(words, HEAD_WORDS + NODE_WORDS * n + EDGE_WORDS * i);
-        let built = drawing.with_edge(x.label, x.source, x.target);
-        drawing = built.drawing;
+        drawing.edges[i] = read_edge(words, HEAD_WORDS + NODE_WORDS * n + EDGE_WORDS * i);
         i += 1;
+        drawing.e = i;
     }
     drawing
 }

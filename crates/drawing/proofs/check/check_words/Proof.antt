@@ -6,22 +6,21 @@ use borrow.Author.Needs.{needs}
 use Rattle.drawing.proofs.check.check_words.Statement.{statement}
 use Rattle.drawing.proofs.check.check_words.Tie as tie
 
-read-drawing-requires : tie.Need-read-drawing-requires
+check-pattern-requires : tie.Need-check-pattern-requires
 unfolding unless
-read-drawing-requires c κs = sym (c .before .right-length .ensures) ∙ rw (c .if1 .taken)
+check-pattern-requires c κs =
+    let length = c .before in
+    record { headed = length .before .before .before .pre; sized = sym (length .right-length .ensures) ∙ rw (c .if1 .taken) }
 
 returns : tie.Need-returns
 unfolding unless _then_
 returns c =
-    let read = c .before in
-    let test = read .before in
-    rw (← test .before .right-length .ensures, test .if1 .taken, ← read .read-drawing .ensures .shown) (c .check-pattern .ensures)
+    let test = c .before in
+    rw (← test .before .right-length .ensures, test .if1 .taken) (c .check-pattern .ensures)
 
 returns-2 : tie.Need-returns-2
 unfolding verdictOf unless _then_
 returns-2 c = rw (← c .before .right-length .ensures, c .if1 .left)
 
 pub check-words-spec : {M : Type 1} → statement M
-check-words-spec =
-    tie.close
-    (tie.spec (λ c κs. search needs) read-drawing-requires (λ c κs. search needs) returns returns-2)
+check-words-spec = tie.close (tie.spec (λ c κs. search needs) check-pattern-requires returns returns-2)

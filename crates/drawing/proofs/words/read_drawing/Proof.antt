@@ -1,7 +1,7 @@
 -- `words::read_drawing` meets its contract: the length that was checked gives the room and the words. Assumes nothing.
 use Rattle.drawing.specs.Drawing.{nodeCount, edgeCount, patternOf}
-use Rattle.drawing.proofs.Encoding.{lengths}
-use Rattle.drawing.proofs.Builder.{read-words}
+use Rattle.drawing.proofs.Encoding.{pattern-nodes, lengths, sized}
+use Rattle.drawing.proofs.Builder.{nodes-alone, read-words}
 use native.Mathlib.Omega.{arith}
 use Rattle.drawing.proofs.words.read_drawing.Statement.{statement}
 use Rattle.drawing.proofs.words.read_drawing.Tie as tie
@@ -24,11 +24,15 @@ cast-e c = let s = c .before .before .before in let l = lengths (s .args .words 
 
 read-nodes-requires : tie.Need-read-nodes-requires
 unfolding nodeCount edgeCount
-read-nodes-requires c κs = let s = c .before .before .before in let l = lengths (s .args .words .now) (s .pre) in record { fewNodes = l .fewNodes; fewEdges = l .fewEdges; exact = l .exact }
+read-nodes-requires c κs = let s = c .before .before .before in sized (s .args .words .now) (s .pre)
 
 read-edges-requires : tie.Need-read-edges-requires
-unfolding nodeCount edgeCount
-read-edges-requires c κs = let s = c .before .before .before .before in let l = lengths (s .args .words .now) (s .pre) in record { fewNodes = l .fewNodes; fewEdges = l .fewEdges; exact = l .exact }
+unfolding patternOf nodeCount edgeCount
+read-edges-requires c κs =
+    let s = c .before .before .before .before in
+    let ws = s .args .words .now in
+    let l = lengths ws (s .pre) in
+    record { sized = sized ws (s .pre); noEdge = rw (c .read-nodes .ensures) (nodes-alone (patternOf ws .nodes) (rw (pattern-nodes ws) (l .fewNodes))) }
 
 returns : tie.Need-returns
 unfolding patternOf nodeCount edgeCount
