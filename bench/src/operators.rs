@@ -323,6 +323,8 @@ fn some(r: &mut Random, v: usize, all: usize, rights: usize, drawn: &str) -> Vec
     match drawn {
         // every so many-th, the first one place further for each middle value
         "in turn" => (0..rights).map(|j| (v % (all / rights) + all / rights * j) as u32).collect(),
+        // as far apart as objects can be
+        "all, spread wide" | "at random, spread wide" => some(r, v, all, rights, "").into_iter().map(|w| w * (65_536 / all as u32)).collect(),
         _ => pairs(rights, || (0, r.below(all) as u32)).into_iter().map(|p| p.1).collect(),
     }
 }
@@ -338,6 +340,9 @@ pub fn worst_compositions(bench: &mut Bench) -> Vec<Worst> {
         (64, 1024, 64, "in turn"),
         (16, 4096, 16, "at random"),
         (1, 65_536, 1, "at random"),
+        (700, 93, 93, "all, spread wide"),
+        (1024, 64, 64, "all, spread wide"),
+        (1024, 64, 32, "at random, spread wide"),
     ];
     let mut rows = shapes.map(|(lefts, middles, rights, drawn)| Worst { lefts, middles, rights, drawn, times: Times::default() });
     for pass in 0..PASSES {

@@ -109,7 +109,7 @@ pub fn page(rows: &[Row], worst: &[Worst]) -> String {
     format!(
         "{HEAD}\n{}\n{}\n## How time grows\n\n{}\n## Above {BOUND}\n\n{}\n## The worst composition\n\n\
         Each left value leads to all middle values, and each middle value to some of those rights that the result may have: 65,536 pairs in the first table, up to \
-        65,536 in the second and in the result. The longest takes {:.0} ms.\n\n{}",
+        65,536 in the second and in the result. Where the rights are spread wide, marks are dear or not used. The longest takes {:.0} ms.\n\n{}",
         table(rows),
         summary(rows),
         growth(rows),
