@@ -5,7 +5,7 @@ use Prim.Native.Nat.{ℕ}
 use mathlib.Core.Path.{_≡_}
 use mathlib.Core.List.{List}
 use Rattle.translator.specs.Translation.{Translated}
-use Rattle.query.specs.Query.{Queried}
+use Rattle.query_answer.specs.Query.{Queried}
 use Rattle.answers.specs.Verdict.{Says}
 use Rattle.sheet_pages.specs.SheetPages.{Paged}
 

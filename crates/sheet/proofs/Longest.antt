@@ -25,7 +25,7 @@ use Rattle.drawing.specs.Drawing.{Pattern, noNode, isPicked, drawingWords}
 use Rattle.drawing.specs.Embeddings.{picked, rows}
 use Rattle.drawing.proofs.Checks.{drawing-feed}
 use Rattle.drawing.proofs.Embeddings.{in-rows}
-use Rattle.query.specs.Query.{pickCount, query}
+use Rattle.query_answer.specs.Query.{pickCount, query}
 use Rattle.sheet_text.specs.Text.{bytes, digits}
 use Rattle.sheet_reader.specs.Sheet.{Outcome, readSheet, feedOf}
 use Rattle.sheet_reader.proofs.Words.{sheet-long}

@@ -13,7 +13,7 @@ use Rattle.drawing.specs.Drawing.{Pattern, isPicked}
 use Rattle.drawing.specs.Embeddings.{picked, rows}
 use Rattle.drawing.proofs.Embeddings.{in-rows}
 use Rattle.query_rows.specs.Rows.{rowWords}
-use Rattle.query.specs.Query.{pickCount}
+use Rattle.query_answer.specs.Query.{pickCount}
 use Rattle.sheet_writer.specs.Parts.{partsOf}
 use Rattle.sheet_writer.proofs.Parts.{parts-joined}
 

@@ -24,11 +24,11 @@ use Rattle.drawing.proofs.Encoding.{pattern-back}
 use Rattle.drawing.proofs.Checks.{drawing-feed, drawing-checked}
 use Rattle.algebra.specs.Instructions.{Instruction}
 use Rattle.query_rows.specs.declared.Given.{Given}
-use Rattle.query.specs.Query.{Lent, pickCount, answer, query}
-use Rattle.query.specs.Answers.{slices, Answers as Queried}
-use Rattle.query.specs.Demand.{ThirdDemand}
-use Rattle.query.proofs.Answers.{extent-inside}
-use Rattle.query.proofs.Demand.{third-demand}
+use Rattle.query_answer.specs.Query.{Lent, pickCount, answer, query}
+use Rattle.query_answer.specs.Answers.{slices, Answers as Queried}
+use Rattle.query_answer.specs.Demand.{ThirdDemand}
+use Rattle.query_answer.proofs.Answers.{extent-inside}
+use Rattle.query_answer.proofs.Demand.{third-demand}
 use Rattle.sheet_text.specs.inner.Parts.{namesOf}
 use Rattle.sheet_reader.specs.declared.SheetRead.{SheetRead}
 use Rattle.sheet_reader.specs.Sheet.{Outcome, read, breach, readSheet}

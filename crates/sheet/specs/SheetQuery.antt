@@ -8,7 +8,7 @@ use Rattle.limits.specs.Limits.{mostNodes, mostListWords, mostBytes, sheetWork,
 use Rattle.answers.specs.Verdict.{Verdict, accepted, refused}
 use Rattle.drawing.specs.Drawing.{Pattern, drawingWords}
 use Rattle.drawing.specs.Embeddings.{rows}
-use Rattle.query.specs.Query.{query, Lent}
+use Rattle.query_answer.specs.Query.{query, Lent}
 use Rattle.sheet_reader.specs.Sheet.{Outcome, read, breach, readSheet, feedOf}
 use Rattle.sheet_writer.specs.Picked.{pickedNames}
 use Rattle.sheet_listing.specs.Listing.{listing, refusal, Listed, listedIn}

@@ -21,7 +21,7 @@ use Rattle.drawing.specs.Builder.{view}
 use Rattle.drawing.specs.Embeddings.{rows}
 use Rattle.algebra.specs.Instructions.{Instruction}
 use Rattle.query_rows.specs.declared.Given.{Given}
-use Rattle.query.specs.Query.{Lent, pickCount, answer, query}
+use Rattle.query_answer.specs.Query.{Lent, pickCount, answer, query}
 use Rattle.sheet_text.specs.inner.Parts.{namesOf}
 use Rattle.sheet_reader.specs.declared.SheetRead.{SheetRead}
 use Rattle.sheet_reader.specs.Sheet.{Outcome, read, breach, readSheet}

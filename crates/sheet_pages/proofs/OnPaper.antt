@@ -19,7 +19,7 @@ use Rattle.drawing.specs.Embeddings.{rows}
 use Rattle.drawing.proofs.Checks.{drawing-feed}
 use Rattle.drawing.proofs.Encoding.{pattern-back}
 use Rattle.query_rows.specs.Rows.{rowWords}
-use Rattle.query.specs.Query.{pickCount, query}
+use Rattle.query_answer.specs.Query.{pickCount, query}
 use Rattle.sheet_text.specs.Text.{isName}
 use Rattle.sheet_lines.specs.Reading.{Reading}
 use Rattle.sheet_reader.specs.Sheet.{Outcome, read, breach, readSheet, feedOf}

@@ -18,7 +18,7 @@ use Rattle.answers.proofs.Verdict.{accepted-is}
 use Rattle.drawing.specs.Drawing.{Pattern}
 use Rattle.drawing.specs.Embeddings.{rows}
 use Rattle.query_rows.specs.declared.Given.{Given}
-use Rattle.query.specs.Query.{pickCount}
+use Rattle.query_answer.specs.Query.{pickCount}
 use Rattle.sheet_reader.specs.Sheet.{Outcome, readSheet, feedOf}
 use Rattle.sheet_listing.specs.Listing.{Listed, refusal, listed, listedIn}
 use Rattle.sheet.specs.SheetQuery.{decidingBytes}

@@ -10,7 +10,7 @@ use Rattle.answers.specs.Verdict.{accepted}
 use Rattle.drawing.specs.Drawing.{drawingWords}
 use Rattle.drawing.specs.Embeddings.{rows}
 use Rattle.query_rows.specs.Rows.{rowWords}
-use Rattle.query.specs.Query.{Queried, query}
+use Rattle.query_answer.specs.Query.{Queried, query}
 use Rattle.sheet_lines.specs.Reading.{Reading}
 use Rattle.sheet_reader.specs.Sheet.{read, readSheet, feedOf}
 use Rattle.sheet.specs.SheetQuery.{ownSlices}

@@ -11,7 +11,7 @@ use Rattle.limits.specs.Limits.{mostColumns, lineWidth, pageRows, sheetRows}
 use Rattle.answers.specs.Verdict.{Verdict, accepted, refused, unless, _then_, isAccepted}
 use Rattle.drawing.specs.Drawing.{Pattern, drawingWords, checkDrawing}
 use Rattle.drawing.specs.Embeddings.{rows}
-use Rattle.query.specs.Query.{pickCount, query}
+use Rattle.query_answer.specs.Query.{pickCount, query}
 use Rattle.sheet_reader.specs.Sheet.{Outcome, read, breach, readSheet, feedOf}
 use Rattle.sheet_writer.specs.Picked.{pickedNames}
 use Rattle.sheet_listing.specs.Listing.{refusal}

@@ -1,5 +1,6 @@
 -- `sheet::ask` meets its contract. Assumes nothing.
 use Rattle.algebra.specs.Run.{roomOf}
+use Rattle.run.specs.inner.Given.{needed}
 use Rattle.sheet.specs.SheetQuery.{ownSlices}
 use Rattle.sheet.proofs.Printing.{own-slices, asked}
 use native.Mathlib.Omega.{arith}
@@ -8,8 +9,8 @@ use Rattle.sheet.proofs.ask.Statement.{statement}
 use Rattle.sheet.proofs.ask.Tie as tie
 
 query-built-requires : tie.Need-query-built-requires
-unfolding roomOf
-query-built-requires c κs = record { scratch = record { first = omega arith; second = omega arith }; both = record { first = omega arith; second = omega arith }; many = omega arith }
+unfolding needed roomOf
+query-built-requires c κs = record { scratch = omega arith; many = omega arith }
 
 returns : tie.Need-returns
 unfolding ownSlices

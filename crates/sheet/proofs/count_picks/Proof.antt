@@ -9,7 +9,7 @@ use Rattle.drawing.specs.Drawing.{noNode, isPicked}
 use Rattle.drawing.specs.Builder.{view}
 use Rattle.drawing.proofs.Builder.{roomy, few}
 use Rattle.drawing.proofs.Encoding.{front-next, left-none}
-use Rattle.query.specs.Query.{pickCount}
+use Rattle.query_answer.specs.Query.{pickCount}
 use borrow.Author.Needs.{needs}
 use native.Mathlib.Omega.{arith}
 use Rattle.sheet.proofs.count_picks.Statement.{statement}

@@ -6,7 +6,7 @@ use lib.ListN.{length}
 use Rattle.answers.specs.Answers.{verdictOf}
 use Rattle.drawing.specs.Drawing.{Pattern, drawingWords}
 use Rattle.query_rows.specs.declared.Given.{Given}
-use Rattle.query.specs.Query.{query}
+use Rattle.query_answer.specs.Query.{query}
 use Rattle.sheet.specs.SheetQuery.{ownSlices}
 
 -- the answer of the query with the sheet query's slices, and its row slice

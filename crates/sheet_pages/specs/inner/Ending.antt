@@ -13,7 +13,7 @@ use Rattle.drawing.specs.declared.Drawing.{Drawing}
 use Rattle.drawing.specs.Builder.{view}
 use Rattle.drawing.specs.Drawing.{Pattern}
 use Rattle.drawing.specs.Embeddings.{rows}
-use Rattle.query.specs.Query.{pickCount}
+use Rattle.query_answer.specs.Query.{pickCount}
 use Rattle.sheet_text.specs.declared.Names.{Names}
 use Rattle.sheet_writer.specs.Picked.{pickedNames}
 use Rattle.sheet_writer.specs.inner.Written.{Named}
