@@ -27,7 +27,7 @@ pub extern "C" fn matcher_check_feed(feed: &[u32], place: &mut u32) -> u32
 pub extern "C" fn matcher_check_drawing(feed: &[u32], drawing: &[u32], place: &mut u32) -> u32
     ensures { λ r. ⌜ Says (checkDrawing (now (feed .entry)) (now (drawing .entry))) r (now (place .exit)) ⌝ }
 {
-    say(drawing::check_drawing(feed, drawing), place)
+    say(drawing_check::check_drawing(feed, drawing), place)
 }
 
 // Checks a feed and an instruction list, then runs the list: 1 to 4 and 8 to 11.

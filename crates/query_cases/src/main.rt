@@ -4,10 +4,10 @@
 use answers::say;
 use drawing::Built;
 use drawing::Drawing;
-use drawing::check::check_drawing;
 use drawing::words::EDGE_WORDS;
 use drawing::words::HEAD_WORDS;
 use drawing::words::NODE_WORDS;
+use drawing_check::check_drawing;
 use limits::ANY_OBJECT;
 use limits::EDGES;
 use limits::LIST_WORDS;

@@ -4,7 +4,7 @@ use answers::Answer;
 use answers::accepts;
 use answers::zeroes;
 use drawing::Drawing;
-use drawing::check_built;
+use drawing_check::check_built;
 use limits::COLUMNS;
 use limits::LINE_WIDTH;
 use limits::PAGE_ROWS;

@@ -13,7 +13,7 @@ use Rattle.tables.specs.Lists.{keep, count, below, placed, total}
 use Rattle.tables.specs.Order.{Table}
 use Rattle.tables.specs.Slices.{tableWords, tablesWords}
 use Rattle.tables.specs.inner.Words.{Put}
-use Rattle.tables.proofs.Members.{length-placed}
+use Rattle.tables.proofs.Members.{length-count, length-placed}
 use Rattle.tables.proofs.Slices.{length-tablesWords}
 use Rattle.tables.proofs.Putting.{put-size, put-then, put-as}
 use Rattle.feed.specs.Feed.{Label, labelWord, feedWords}
@@ -58,11 +58,6 @@ none-sized (k ∷ ks) = let h = none-sized ks in omega arith
 lines-bound : (es : List Entry) (i n : ℕ) → sizes es (count i n) ≤ length es
 lines-bound [] i n = let z = none-sized (count i n) in omega arith
 lines-bound (x ∷ es) i n = let o = line-once x es i n in let h = lines-bound es i n in omega arith
-
-length-count : (i n : ℕ) → length (count i n) ≡ n
-unfolding count
-length-count i zero = refl
-length-count i (suc n) = rw (length-count (i + 1) n)
 
 pub length-grouped : (es : List Entry) (n : ℕ) → length (grouped es n) ≡ n
 unfolding grouped below

@@ -1,12 +1,12 @@
--- `check::check_drawing` meets its contract: a feed that is refused answers alone. Assumes nothing.
+-- `drawing_check::check_drawing` meets its contract: a feed that is refused answers alone. Assumes nothing.
 use mathlib.Core.Path.{_∙_, sym, ap}
 use Rattle.answers.specs.Answers.{verdictOf}
 use Rattle.answers.proofs.Refusing.{leaves, stands}
 use Rattle.feed.proofs.Feed.{feed-accepted}
 use Rattle.drawing.specs.Drawing.{checkDrawing}
 use borrow.Author.Needs.{needs}
-use Rattle.drawing.proofs.check.check_drawing.Statement.{statement}
-use Rattle.drawing.proofs.check.check_drawing.Tie as tie
+use Rattle.drawing_check.proofs.check_drawing.Statement.{statement}
+use Rattle.drawing_check.proofs.check_drawing.Tie as tie
 
 enum-told : tie.Need-enum-told
 enum-told c = search needs

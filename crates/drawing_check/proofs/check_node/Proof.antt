@@ -1,4 +1,4 @@
--- `check::check_node` meets its contract: each answer by the tests that led to it. Assumes nothing.
+-- `drawing_check::check_node` meets its contract: each answer by the tests that led to it. Assumes nothing.
 use mathlib.Core.Bool.{false}
 use mathlib.Core.Path.{_≡_}
 use borrow.Author.Tests.{le-ltb, lt-ltb, le-leb, lt-leb}
@@ -6,10 +6,10 @@ use lib.Dec.{leb}
 use Rattle.limits.specs.Limits.{anyObject}
 use Rattle.answers.specs.Verdict.{unless, _then_}
 use Rattle.answers.specs.Answers.{verdictOf}
 use Rattle.drawing.specs.Drawing.{checkNode}
 use borrow.Author.Needs.{needs}
-use Rattle.drawing.proofs.check.check_node.Statement.{statement}
-use Rattle.drawing.proofs.check.check_node.Tie as tie
+use Rattle.drawing_check.proofs.check_node.Statement.{statement}
+use Rattle.drawing_check.proofs.check_node.Tie as tie
 
 returns : tie.Need-returns
 unfolding verdictOf checkNode unless _then_

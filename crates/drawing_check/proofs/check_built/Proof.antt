@@ -1,16 +1,16 @@
--- `check::check_built` meets its contract: the words of any drawing fit, and are told what they are. Assumes nothing.
+-- `drawing_check::check_built` meets its contract: the words of any drawing fit, and are told what they are. Assumes nothing.
 use Prim.Native.Nat.{_≤_}
 use lib.ListN.{length}
 use Rattle.limits.specs.Limits.{mostNodes, mostEdges}
 use Rattle.drawing.specs.declared.Drawing.{Drawing}
 use Rattle.drawing.specs.Drawing.{wordCount, drawingWords}
 use Rattle.drawing.specs.Builder.{view}
 use Rattle.drawing.proofs.Builder.{Roomy, roomy, few}
 use Rattle.drawing.proofs.Encoding.{words-length, written}
 use borrow.Author.Needs.{needs}
 use native.Mathlib.Omega.{arith}
-use Rattle.drawing.proofs.check.check_built.Statement.{statement}
-use Rattle.drawing.proofs.check.check_built.Tie as tie
+use Rattle.drawing_check.proofs.check_built.Statement.{statement}
+use Rattle.drawing_check.proofs.check_built.Tie as tie
 
 -- any drawing's words fit
 most : (d : Drawing) → Roomy d → length (drawingWords (view d)) ≤ wordCount mostNodes mostEdges

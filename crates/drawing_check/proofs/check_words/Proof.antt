@@ -1,10 +1,10 @@
--- `check::check_words` meets its contract: the length first, then what the words show. Assumes nothing.
+-- `drawing_check::check_words` meets its contract: the length first, then what the words show. Assumes nothing.
 use mathlib.Core.Path.{_∙_, sym}
 use Rattle.answers.specs.Verdict.{unless, _then_}
 use Rattle.answers.specs.Answers.{verdictOf}
 use borrow.Author.Needs.{needs}
-use Rattle.drawing.proofs.check.check_words.Statement.{statement}
-use Rattle.drawing.proofs.check.check_words.Tie as tie
+use Rattle.drawing_check.proofs.check_words.Statement.{statement}
+use Rattle.drawing_check.proofs.check_words.Tie as tie
 
 check-pattern-requires : tie.Need-check-pattern-requires
 unfolding unless

@@ -1,20 +1,20 @@
 // The check of a drawing beside a feed: of one that was built line by line, and of words.
 
-use crate::Drawing;
-use crate::Edge;
-use crate::Node;
-use crate::words::EDGE_WORDS;
-use crate::words::FIXED;
-use crate::words::HEAD_WORDS;
-use crate::words::MOST_WORDS;
-use crate::words::NODE_WORDS;
-use crate::words::PICK;
-use crate::words::SOURCE;
-use crate::words::TARGET;
-use crate::words::read_edge;
-use crate::words::read_node;
-use crate::words::right_length;
 use answers::Answer;
+use drawing::Drawing;
+use drawing::Edge;
+use drawing::Node;
+use drawing::words::EDGE_WORDS;
+use drawing::words::FIXED;
+use drawing::words::HEAD_WORDS;
+use drawing::words::MOST_WORDS;
+use drawing::words::NODE_WORDS;
+use drawing::words::PICK;
+use drawing::words::SOURCE;
+use drawing::words::TARGET;
+use drawing::words::read_edge;
+use drawing::words::read_node;
+use drawing::words::right_length;
 use feed::class_count;
 use feed::label_count;
 use limits::ANY_OBJECT;
@@ -25,9 +25,10 @@ ghost use Rattle.limits.specs.Limits.{mostNodes, mostEdges};
 ghost use Rattle.tables.specs.Lists.{any};
 ghost use Rattle.answers.specs.Verdict.{_then_};
 ghost use Rattle.answers.specs.Answers.{verdictOf};
 ghost use Rattle.drawing.specs.Drawing.{headWidth, nodeWidth, edgeWidth, edgesStart, wordCount, isPicked, nodeOf, edgeOf, drawingWords, readEach, patternOf, checkNode, checkEdge, checkEach, checkLength, checkPattern, checkDrawing};
 ghost use Rattle.drawing.specs.Builder.{view};
-ghost use Rattle.drawing.specs.inner.Parts.{Sized, Checkable};
+ghost use Rattle.drawing.specs.inner.Parts.{Sized};
+ghost use Rattle.drawing_check.specs.inner.Given.{Checkable};
 
 // The node whose words start at `at`.
 fn check_node(v: Node, at: usize, classes: u32) -> Answer

@@ -1,11 +1,11 @@
--- `check::check_edge` meets its contract: each answer by the tests that led to it. Assumes nothing.
+-- `drawing_check::check_edge` meets its contract: each answer by the tests that led to it. Assumes nothing.
 use borrow.Author.Tests.{le-ltb, lt-ltb}
 use Rattle.answers.specs.Verdict.{unless, _then_}
 use Rattle.answers.specs.Answers.{verdictOf}
 use Rattle.drawing.specs.Drawing.{checkEdge}
 use borrow.Author.Needs.{needs}
-use Rattle.drawing.proofs.check.check_edge.Statement.{statement}
-use Rattle.drawing.proofs.check.check_edge.Tie as tie
+use Rattle.drawing_check.proofs.check_edge.Statement.{statement}
+use Rattle.drawing_check.proofs.check_edge.Tie as tie
 
 returns : tie.Need-returns
 unfolding verdictOf checkEdge unless _then_

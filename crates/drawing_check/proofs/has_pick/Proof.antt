@@ -1,15 +1,15 @@
--- `check::has_pick` meets its contract. The loop's invariant: whether a node from i on is picked is whether any is. Assumes nothing.
+-- `drawing_check::has_pick` meets its contract. The loop's invariant: whether a node from i on is picked is whether any is. Assumes nothing.
 use mathlib.Core.Path.{_≡_}
 use mathlib.Core.List.{_∷_}
 use borrow.Author.Tests.{eq-eqb, ne-eqb}
 use Prim.Native.Nat.{_+_, _-_, _≤_}
 use lib.ListN.{drop}
 use Rattle.tables.specs.Lists.{any}
 use Rattle.drawing.specs.Drawing.{headWidth, nodeWidth, nodeOf, readEach, isPicked}
 use Rattle.drawing.proofs.Encoding.{eachFrom, each-more, each-done, each-all}
 use native.Mathlib.Omega.{arith}
-use Rattle.drawing.proofs.check.has_pick.Statement.{statement}
-use Rattle.drawing.proofs.check.has_pick.Tie as tie
+use Rattle.drawing_check.proofs.has_pick.Statement.{statement}
+use Rattle.drawing_check.proofs.has_pick.Tie as tie
 
 abbrev Inv-loop : tie.InvT-loop
 Inv-loop words n e i₀ i =

@@ -1,16 +1,16 @@
--- `check::check_pattern` meets its contract: the nodes, the edges, then the picks. Assumes nothing.
+-- `drawing_check::check_pattern` meets its contract: the nodes, the edges, then the picks. Assumes nothing.
 use mathlib.Core.Path.{_≡_, _∙_}
 use mathlib.Core.Bool.{Bool}
 use Rattle.answers.specs.Verdict.{unless}
 use Rattle.answers.specs.Answers.{verdictOf}
 use Rattle.answers.proofs.Refusing.{leaves, stands}
 use Rattle.drawing.specs.Drawing.{nodeCount, edgeCount, patternOf, checkPattern}
 use Rattle.drawing.proofs.Encoding.{Lengths, lengths, sized}
 use Rattle.drawing.proofs.Checks.{pattern-check}
 use borrow.Author.Needs.{needs}
 use native.Mathlib.Omega.{arith}
-use Rattle.drawing.proofs.check.check_pattern.Statement.{statement}
-use Rattle.drawing.proofs.check.check_pattern.Tie as tie
+use Rattle.drawing_check.proofs.check_pattern.Statement.{statement}
+use Rattle.drawing_check.proofs.check_pattern.Tie as tie
 
 -- ---- places
 abbrev entry-of-read-n : tie.After-shared-slice-known3 → tie.Start
