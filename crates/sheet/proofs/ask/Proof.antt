@@ -1,6 +1,6 @@
 -- `sheet::ask` meets its contract. Assumes nothing.
 use Rattle.algebra.specs.Run.{roomOf}
-use Rattle.run.specs.inner.Given.{needed}
+use Rattle.run_list.specs.inner.Given.{needed}
 use Rattle.sheet.specs.SheetQuery.{ownSlices}
 use Rattle.sheet.proofs.Printing.{own-slices, asked}
 use native.Mathlib.Omega.{arith}
