@@ -1,19 +1,21 @@
-//! The four matchers side by side: their rows compared, then their times, turn by turn.
+//! The five matchers side by side: their rows compared, then their times, turn by turn.
 
 use crate::algebra::Algebra;
-use crate::backtracking::Index;
+use crate::backtracking;
 use crate::clock::median;
 use crate::drawings::Drawing;
 use crate::frame::Frame;
+use crate::index::Index;
 use crate::proved::Proved;
 use crate::sqlite::{Database, Statement};
 use crate::turns::{take_turns, timed, usual, Matcher, AMPLE};
 
-pub const NAMES: [&str; 4] = ["proved query", "SQLite", "backtracking", "unproved algebra"];
+pub const NAMES: [&str; 5] = ["proved query", "SQLite", "backtracking", "unproved algebra", "backtracking, from the words"];
 pub const PROVED: usize = 0;
 pub const SQLITE: usize = 1;
 pub const BACKTRACKING: usize = 2;
 pub const UNPROVED: usize = 3;
+pub const FROM_WORDS: usize = 4;
 
 /// A frame as each matcher wants it.
 pub struct Ready<'f> {
@@ -21,11 +23,15 @@ pub struct Ready<'f> {
     /// the second with statistics of its tables
     databases: [Database; 2],
     index: Index,
+    /// of which the search from the words builds what it needs whenever it is asked
+    anew: Index,
 }
 
 impl<'f> Ready<'f> {
     pub fn new(frame: &'f Frame) -> Self {
-        Ready { frame, databases: [false, true].map(|statistics| Database::new(frame, statistics)), index: Index::new(frame) }
+        let [index, anew] = [(); 2].map(|()| Index::new(&frame.feed));
+        [&index, &anew].iter().for_each(|index| index.read(&frame.feed, &index.parts()));
+        Ready { frame, databases: [false, true].map(|statistics| Database::new(frame, statistics)), index, anew }
     }
 
     /// The query prepared in both databases; the one that is quicker.
@@ -48,7 +54,7 @@ pub struct Cell {
     /// pairs of all registers
     pub pairs: usize,
     pub refused: Option<(u32, u32)>,
-    turns: Vec<[f64; 4]>,
+    turns: Vec<[f64; NAMES.len()]>,
 }
 
 impl Cell {
@@ -67,11 +73,12 @@ impl Cell {
         (self.regions, self.rows, self.pairs, self.refused) == (other.regions, other.rows, other.pairs, other.refused)
     }
 
-    /// Asks all four, compares what they answer, and adds times for so many seconds.
+    /// Asks all five, compares what they answer, and adds times for so many seconds.
     pub fn measure(&mut self, ready: &Ready, drawing: &Drawing, seconds: f64) {
         let drawing = drawing.on(ready.frame);
         let (feed, words) = (&ready.frame.feed, drawing.words());
-        let mut search = ready.index.search(&drawing);
+        let mut search = backtracking::search(&ready.index, None, &drawing);
+        let mut from_words = backtracking::search(&ready.anew, Some(feed), &drawing);
         let mut sqlite = ready.prepare(&drawing);
         let mut algebra = Algebra::new(feed, &words, AMPLE);
         let rows = search.ask().expect("a search refuses nothing").to_vec();
@@ -82,18 +89,21 @@ impl Cell {
 
         let answer = refused.map_or(Ok(&rows[..]), Err);
         assert!(sqlite.ask() == Ok(&rows), "{}: SQLite and the search differ", drawing.name);
+        assert!(from_words.ask() == Ok(&rows), "{}: the two searches differ", drawing.name);
         assert!(algebra.ask() == answer, "{}: the unproved algebra and the search differ", drawing.name);
         assert!(proved.ask() == answer, "{}: the proved query and the search differ", drawing.name);
         assert!(proved.list == list, "{}: the translations differ", drawing.name);
 
         let (regions, rows, pairs) = (ready.frame.regions, rows.len() / drawing.picks().len(), work / 2);
         let mut turns = std::mem::take(&mut self.turns);
-        turns.extend(take_turns([&mut proved, &mut sqlite, &mut *search, &mut algebra], seconds));
+        turns.extend(take_turns([&mut proved, &mut sqlite, &mut *search, &mut algebra, &mut *from_words], seconds));
         *self = Cell { regions, rows, pairs, refused, turns };
     }
 }
 
 /// Seconds that it takes to make a frame ready, before any query: the check of the feed, which each proved query makes, a database, an index.
 pub fn preparation(frame: &Frame) -> [f64; 3] {
-    [usual(99, || matcher::check_feed(&frame.feed)), usual(5, || Database::new(frame, true)), usual(99, || Index::new(frame))]
+    let index = Index::new(&frame.feed);
+    let parts = index.parts();
+    [usual(99, || matcher::check_feed(&frame.feed)), usual(5, || Database::new(frame, true)), usual(99, || index.read(&frame.feed, &parts))]
 }

@@ -26,8 +26,6 @@ type Pairs = BTreeSet<(u32, u32)>;
 
 pub struct Frame {
     pub regions: usize,
-    /// every object's number is below this
-    pub objects: usize,
     pub classes: Vec<Vec<u32>>,
     pub labels: Vec<Vec<(u32, u32)>>,
     /// touching pairs stand in both directions
@@ -211,7 +209,7 @@ impl Frame {
         let classes: Vec<Vec<u32>> = layout.classes.into_iter().map(|c| c.into_iter().collect()).collect();
         assert!(classes.iter().map(Vec::len).chain(labels.iter().map(Vec::len)).all(|n| n <= CEILING), "a table is over its ceiling");
         let feed = words(&classes, &labels, None);
-        Frame { regions: layout.regions, objects: layout.regions, classes, labels, both, neighbours, known_cap, feed }
+        Frame { regions: layout.regions, classes, labels, both, neighbours, known_cap, feed }
     }
 
     /// The same frame with its objects numbered anew.
@@ -219,10 +217,9 @@ impl Frame {
         let to = numbers.of(self.regions);
         let classes: Vec<Vec<u32>> = self.classes.iter().map(|c| sorted(c.iter().map(|&u| to[u as usize]))).collect();
         let labels: Vec<Vec<_>> = self.labels.iter().map(|t| sorted(t.iter().map(|&(u, v)| (to[u as usize], to[v as usize])))).collect();
-        let objects = to.iter().max().map_or(0, |&last| last as usize + 1);
         let known_cap = to[self.known_cap as usize];
         let feed = words(&classes, &labels, None);
-        Frame { objects, classes, labels, known_cap, feed, ..*self }
+        Frame { classes, labels, known_cap, feed, ..*self }
     }
 
     /// The feed of the same frame in which `touch` is two-way, and has each touching pair once, in chance order.

@@ -7,6 +7,7 @@ mod backtracking;
 mod contest;
 mod drawings;
 mod frame;
+mod index;
 mod numbers;
 mod page;
 mod plot;

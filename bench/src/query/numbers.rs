@@ -1,7 +1,7 @@
 //! The page's section on object numbers that are not dense, with the means of all ratios.
 
 use crate::clock::geometric_mean;
-use crate::contest::{Cell, BACKTRACKING, PROVED, SQLITE, UNPROVED};
+use crate::contest::{Cell, BACKTRACKING, FROM_WORDS, PROVED, SQLITE, UNPROVED};
 use crate::drawings::CAP_FIXED;
 use crate::figures::count;
 use crate::text::{micro, ratio, row};
@@ -9,7 +9,7 @@ use crate::Results;
 
 const NUMBERS: &str = "\
 The frames above have *dense* numbers: their regions are numbered from 0 on, row by row. Here the same frames have other numbers. *Shuffled* are the same ones in chance order, so that regions that
-touch have numbers far from each other. *Spread* are chance ones up to 65,535, in the order of the dense ones, so that there are gaps everywhere. All four matchers are asked on these frames, too,
+touch have numbers far from each other. *Spread* are chance ones up to 65,535, in the order of the dense ones, so that there are gaps everywhere. All five matchers are asked on these frames, too,
 and must give the same rows; less time is spent on each query. The sizes of the registers are the same, whatever the numbers.
 ";
 
@@ -65,14 +65,14 @@ fn mean(drawings: &str, queries: &[Query], kinds: &[usize]) -> String {
         [k] => (NAMES[*k], ratio(to_dense(*k))),
         _ => ("all three", String::new()),
     };
-    let means = [of(SQLITE), of(BACKTRACKING), 1.0 / of(UNPROVED)].map(ratio);
+    let means = [of(SQLITE), of(BACKTRACKING), of(FROM_WORDS), 1.0 / of(UNPROVED)].map(ratio);
     row([drawings, name].map(String::from).into_iter().chain(means).chain([slower, format!("{faster} of {}", cells().count())]))
 }
 
 fn means(results: &Results) -> String {
     let mut text = String::from(
-        "| drawings | numbers | SQLite / proved | backtracking / proved | proved / unproved | proved: to dense | SQLite is faster in |\n\
-        |---|---|---:|---:|---:|---:|---:|\n",
+        "| drawings | numbers | SQLite / proved | backtracking / proved | from the words / proved | proved / unproved | proved: to dense | SQLite is faster in |\n\
+        |---|---|---:|---:|---:|---:|---:|---:|\n",
     );
     let queries = queries(results);
     for (drawings, left_out) in [("all", ""), ("all but `bottle, cap fixed`", CAP_FIXED)] {

@@ -1,7 +1,7 @@
 //! The page of figures.
 
-use crate::clock::median;
-use crate::contest::{Cell, BACKTRACKING, PROVED, SQLITE, UNPROVED};
+use crate::clock::{geometric_mean, median};
+use crate::contest::{Cell, BACKTRACKING, FROM_WORDS, PROVED, SQLITE, UNPROVED};
 use crate::drawings::{Drawing, BOTTLE, CAP_FIXED};
 use crate::figures::count;
 use crate::frame::{CLASSES, LABELS};
@@ -15,11 +15,14 @@ const MATCHERS: &str = "\
   statistics (`ANALYZE`) and in one without; the quicker one counts.
 - *backtracking*: a search in Rust. Next is the node with most edges to those before it, of these the one of the smallest class, or a fixed one. Candidates come from the shortest
   list of neighbours, which are kept by label in both directions. Once all picked nodes have their objects, one way to go on is enough. The rows are sorted, and equal ones dropped.
+- *backtracking from the words*: the same search, in the same order of nodes. Its index is built from the words of the feed each time, only of the classes and labels that the drawing names and
+  in the directions that the search looks at, by counting, in slices that it keeps from query to query. The feed is not checked.
 - *unproved algebra*: the same translation, run and rows by the same algorithms in plain Rust (`bench/src/query/algebra.rs` over `bench/src/peer/`), which are told below.
 
-All four first gave the same rows, both algebras the same instructions and the same refusal; otherwise the bench fails. Then they take turns. A time is processor time, the median of the turns in three passes.
+All five first gave the same rows, both algebras the same instructions and the same refusal; otherwise the bench fails. Then they take turns. A time is processor time, the median of the turns in three passes.
 **A ratio is the other's time to the proved query's, the median of the turns: above 1 the proved query is faster.** The tables and the statement of SQLite and the index and the order of nodes of
-the search are ready before the clock starts. The proved query starts from the words of feed and drawing each time. What that spares the others is told under *Before the first query*.
+the search are ready before the clock starts. The proved query starts from the words of feed and drawing each time, and the search from the words from those of the feed. What that spares the
+others is told under *Before the first query*.
 ";
 
 const FRAMES: &str = "\
@@ -50,6 +53,11 @@ Document 01 fixes the program and the registers: every table is loaded as a whol
 path of each picked node; all registers stay in the work slice, and their pairs, beside the rows, tell how much more is written. A search writes nothing but its rows, and begins where there is \
 least to try: on the bottle, the tray and the tree it looks at a few regions around a small class, the program at every touching pair. Where many embeddings share a row the program composes the \
 unpicked middles of a chain away, and a search goes through each of them.";
+
+const FROM_THE_WORDS: &str = "\
+*Backtracking* shows what a query costs where one frame is asked many times: the index is built once, and then a search looks at few of its objects. *Backtracking from the words* shows what it \
+costs where each frame is new: both then start from the same words, and whoever reads all of them once has paid most of what a selective drawing costs. The proved query also checks these words; \
+the search believes them.";
 
 const BESIDE_UNPROVED: &str = "\
 In each query the proved one takes its scratch from the stack and zeroes it, in six lengths, from 1,024 words to 65,536, by the pairs that the work slice takes. The unproved one keeps its own from query to query. The proved translation hands the drawing on by value from step to step. What is paid so, whatever the frame, is in the next table; how \
@@ -95,21 +103,22 @@ fn drawings(results: &Results) -> String {
 }
 
 /// The times and ratios of one query. Where it is refused the others have their times.
-fn figures(cell: &Cell) -> [String; 5] {
+fn figures(cell: &Cell) -> [String; 6] {
     let other = |which| ratio(cell.ratio(which));
     let time = |which| format!("({} µs)", micro(cell.time(which)));
     match cell.refused {
-        None => [count(cell.pairs), micro(cell.time(PROVED)), other(SQLITE), other(BACKTRACKING), other(UNPROVED)],
+        None => [count(cell.pairs), micro(cell.time(PROVED)), other(SQLITE), other(BACKTRACKING), other(FROM_WORDS), other(UNPROVED)],
         Some((number, place)) => {
-            [String::new(), format!("refused: {number} at {place}"), time(SQLITE), time(BACKTRACKING), "refused".into()]
+            let refused = format!("refused: {number} at {place}");
+            [String::new(), refused, time(SQLITE), time(BACKTRACKING), time(FROM_WORDS), "refused".into()]
         }
     }
 }
 
 fn table(results: &Results) -> String {
     let mut text = String::from(
-        "| drawing | regions | rows | pairs in registers | proved query, µs | SQLite / proved | backtracking / proved | unproved / proved |\n\
-        |---|---:|---:|---:|---:|---:|---:|---:|\n",
+        "| drawing | regions | rows | pairs in registers | proved query, µs | SQLite / proved | backtracking / proved | from the words / proved | unproved / proved |\n\
+        |---|---:|---:|---:|---:|---:|---:|---:|---:|\n",
     );
     for (drawing, cells) in results.drawings.iter().zip(&results.cells) {
         for (i, cell) in cells.iter().enumerate() {
@@ -188,6 +197,19 @@ fn beside_search(results: &Results) -> String {
     )
 }
 
+/// What the two ways to time the search show.
+fn from_words(results: &Results) -> String {
+    let mean = |which| ratio(geometric_mean(accepted(results).iter().map(|(_, cell)| cell.ratio(which))));
+    format!(
+        "**Backtracking from the words**: {}. The ratio is least on {}, and greatest on {}. The geometric mean is {}, that of the search whose index is ready {}. {FROM_THE_WORDS}\n",
+        outcome(results, FROM_WORDS),
+        extreme(results, FROM_WORDS, false),
+        extreme(results, FROM_WORDS, true),
+        mean(FROM_WORDS),
+        mean(BACKTRACKING)
+    )
+}
+
 fn beside_unproved(results: &Results) -> String {
     let at = |i: usize| {
         let cells = results.cells.iter().map(|cells| &cells[i]).filter(|cell| cell.refused.is_none());
@@ -202,7 +224,7 @@ fn refusals(results: &Results) -> String {
     for (drawing, cells) in results.drawings.iter().zip(&results.cells) {
         for (cell, (number, place)) in cells.iter().filter_map(|cell| Some((cell, cell.refused?))) {
             text += &format!(
-                "\nThe {} on {} regions is refused with {number} at instruction {place}: that register would hold more than 65,536 pairs. The other two find {} rows.\n",
+                "\nThe {} on {} regions is refused with {number} at instruction {place}: that register would hold more than 65,536 pairs. The others find {} rows.\n",
                 drawing.name,
                 count(cell.regions),
                 count(cell.rows)
@@ -286,13 +308,13 @@ fn stored_once(results: &Results) -> String {
 pub fn page(results: &Results) -> String {
     [
         "# The query, beside SQLite, a search and an unproved algebra\n\nWritten by `bench/query`; x86-64, one core. \
-        Each whole query is timed beside three others, on the same frames and drawings, in one process.\n\n",
+        Each whole query is timed beside four others, on the same frames and drawings, in one process.\n\n",
         &MATCHERS.replace("VERSION", &sqlite::version()),
         "\n![Time of each query against the regions of the frame](bench-query.svg)\n\n",
         &table(results),
         &refusals(results),
         "\n## Where it gains and where it loses\n\n",
-        &[beside_sqlite(results), beside_search(results), beside_unproved(results)].join("\n"),
+        &[beside_sqlite(results), beside_search(results), from_words(results), beside_unproved(results)].join("\n"),
         "\nThe fixed cost, as time of a query where all tables are empty:\n\n",
         &fixed_cost(results),
         "\n## Other numbers\n\n",
@@ -307,7 +329,7 @@ pub fn page(results: &Results) -> String {
         &frames(results),
         "\n## Drawings\n\n",
         &drawings(results),
-        "\n## Before the first query\n\nWhat SQLite and the search do once for each frame, and the proved query each time:\n\n",
+        "\n## Before the first query\n\nWhat SQLite and the search do once for each frame, and the proved query each time; the search indexes every class and label in both directions:\n\n",
         &preparation(results),
         "\n## Touching pairs stored once\n\n",
         STORED_ONCE,

@@ -5,7 +5,7 @@ use crate::figures::count;
 use crate::frame::SIZES;
 use crate::Results;
 
-const COLOURS: [&str; 4] = ["#0072b2", "#d55e00", "#009e73", "#8c8c8c"];
+const COLOURS: [&str; 5] = ["#0072b2", "#d55e00", "#009e73", "#8c8c8c", "#cc79a7"];
 
 /// Panels in a row, and the size of each with its title and its axis.
 const ACROSS: usize = 4;
@@ -27,7 +27,7 @@ struct Scale {
 
 impl Scale {
     fn of(cells: &[Vec<Cell>]) -> Self {
-        let times = || cells.iter().flatten().flat_map(|cell| (0..4).map(|which| cell.time(which).log10()));
+        let times = || cells.iter().flatten().flat_map(|cell| (0..NAMES.len()).map(|which| cell.time(which).log10()));
         Scale { low: times().fold(f64::MAX, f64::min).floor() as i32, high: times().fold(f64::MIN, f64::max).ceil() as i32 }
     }
 
@@ -61,14 +61,15 @@ fn decade(power: i32) -> String {
     }
 }
 
-/// A matcher's mark: circle, square, triangle or diamond.
+/// A matcher's mark: circle, square, triangle, diamond or a triangle on its tip.
 fn mark(which: usize, (x, y): (f64, f64)) -> String {
     let colour = COLOURS[which];
     match which {
         0 => format!("<circle cx=\"{x:.1}\" cy=\"{y:.1}\" r=\"3.4\" fill=\"{colour}\"/>\n"),
         1 => format!("<rect x=\"{:.1}\" y=\"{:.1}\" width=\"6\" height=\"6\" fill=\"{colour}\"/>\n", x - 3.0, y - 3.0),
         2 => format!("<path d=\"M{x:.1} {:.1}l3.8 6.4h-7.6z\" fill=\"{colour}\"/>\n", y - 3.8),
-        _ => format!("<path d=\"M{x:.1} {:.1}l3.8 3.8l-3.8 3.8l-3.8-3.8z\" fill=\"{colour}\"/>\n", y - 3.8),
+        3 => format!("<path d=\"M{x:.1} {:.1}l3.8 3.8l-3.8 3.8l-3.8-3.8z\" fill=\"{colour}\"/>\n", y - 3.8),
+        _ => format!("<path d=\"M{x:.1} {:.1}l-3.8-6.4h7.6z\" fill=\"{colour}\"/>\n", y + 3.8),
     }
 }
 
@@ -108,7 +109,7 @@ fn series(scale: &Scale, cells: &[Cell], which: usize) -> String {
 
 fn panel(scale: &Scale, place: usize, name: &str, cells: &[Cell]) -> String {
     let mut svg = axes(scale, place % ACROSS == 0, name);
-    for which in [3, 2, 1, 0] {
+    for which in (0..NAMES.len()).rev() {
         svg += &series(scale, cells, which);
     }
     for (cell, (number, _)) in cells.iter().filter_map(|cell| Some((cell, cell.refused?))) {
@@ -138,7 +139,7 @@ fn legend(place: usize) -> String {
         "two others, and each pair is there in one direction",
     ];
     for (i, note) in notes.iter().enumerate() {
-        svg += &text(LEFT + 10.0, TOP + 118.0 + 16.0 * i as f64, "start", note);
+        svg += &text(LEFT + 10.0, TOP + 136.0 + 16.0 * i as f64, "start", note);
     }
     at(place, &svg)
 }
