@@ -69,7 +69,7 @@ Both algebras work in the same ways:
 
 - *feed*: a pass over each table that tells only whether all its pairs pass; where not, a walk to the first that does not.
 - *composition* with a table of equal sides without gaps: on the left it cuts a part out of the other table, by two searches and a copy; on the right it picks the pairs whose right lies between
-  two numbers. With gaps, on the right: it picks the pairs whose right is found in it.
+  two numbers, or copies the table where all do. With gaps, on the right: it picks the pairs whose right is found in it.
 - *other compositions*, where the first table has one pair for each left: each pair gives what is found as it stands. The pairs of a value in the second table are found by subtraction where it
   has one pair for each left without gaps, else by an index in the scratch that has a word for each of its lefts, else by halving. Where the first table has more pairs for a left, they give the
   union of what is found, by marks or by merges; it is found by an index with a word for each number of the range, or by halving.
