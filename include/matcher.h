@@ -30,7 +30,7 @@
 #include <stddef.h>
 #include <stdint.h>
 
-#define MATCHER_VERSION "3.0.2"
+#define MATCHER_VERSION "3.0.3"
 #define MATCHER_VERSION_MAJOR 3
 #define MATCHER_VERSION_MINOR 0
 #define MATCHER_VERSION_PATCH 2

@@ -133,10 +133,11 @@ fn legend(place: usize) -> String {
         svg += &text(LEFT + 52.0, y + 4.0, "start", name);
     }
     let notes = [
-        "time of a query against the regions of the frame,",
+        "time of a query against regions,",
         "both logarithmic; lower is faster",
-        "dashed: each region of the last frame touches about",
-        "two others, and each pair is there in one direction",
+        "dashed: on the last frame a region",
+        "touches about two others, and each",
+        "pair stands in one direction",
     ];
     for (i, note) in notes.iter().enumerate() {
         svg += &text(LEFT + 10.0, TOP + 136.0 + 16.0 * i as f64, "start", note);
