@@ -7,3 +7,7 @@ pub mod Instructions
 pub mod Demand
 pub mod Faults
 pub mod Sizes
+pub mod Operands
+pub mod Living
+pub mod Reuse
+pub mod Cut

@@ -1,7 +1,9 @@
 pub mod Demand
 pub mod Faults
 pub mod Instructions
+pub mod Living
 pub mod Operators
+pub mod Reuse
 pub mod Run
 pub mod Sizes
 pub mod inner

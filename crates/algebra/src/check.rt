@@ -17,7 +17,7 @@ ghost use Rattle.algebra.specs.Instructions.{instruction, instructionsOf
 ghost use Rattle.algebra.specs.inner.Parts.{checkInstructionList, Fit, Early, instructionOf, operandsOf};
 
 // The operands that a kind takes.
-fn shape_of(kind: u32) -> Shape
+pub fn shape_of(kind: u32) -> Shape
     ensures { λ r. ⌜ operandsOf r ≡ getElem? signatures kind ⌝ }
 {
     match kind {
