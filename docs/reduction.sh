@@ -49,6 +49,6 @@ code() { # y text...
 
     title 440 'Rows: each left value of register 11, read through the two paths.'
     code 470 'tag     9    10' '589824  1    3' '589825  2    4'
-    echo "<text x='20' y='500' class='c'>12 instructions, 33 pairs: 66 work words suffice.</text>"
+    echo "<text x='20' y='536' class='c'>12 instructions, 33 pairs, at most 21 at once: 42 work words suffice.</text>"
     echo "</svg>"
 } >reduction.svg

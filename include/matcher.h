@@ -16,7 +16,7 @@
  *       matcher_check_feed       1
  *       matcher_check_drawing    1
  *       matcher_translate       22
- *       matcher_run            800
+ *       matcher_run            802
  *       matcher_query          820
  *       matcher_sheet_query    584
  *       matcher_sheet_pages    584
@@ -30,10 +30,10 @@
 #include <stddef.h>
 #include <stdint.h>
 
-#define MATCHER_VERSION "3.0.3"
-#define MATCHER_VERSION_MAJOR 3
+#define MATCHER_VERSION "4.0.0"
+#define MATCHER_VERSION_MAJOR 4
 #define MATCHER_VERSION_MINOR 0
-#define MATCHER_VERSION_PATCH 2
+#define MATCHER_VERSION_PATCH 0
 
 /* Words that take every translation: 876 instructions. */
 #define MATCHER_LIST_WORDS 2628
@@ -71,16 +71,23 @@ uint32_t matcher_translate(const uint32_t *feed, size_t feed_len, const uint32_t
                            size_t list_len, uint32_t *place, size_t *instructions);
 
 /* Checks a feed and an instruction list, then runs the list: 1 to 4, 8 to 11, 16 and 17. The place of 9, 16 and 17 is a word of the
- * list: the kind of instruction i is word 3i, its a and b are the two behind it. The place of 10 and 11 is the instruction. The work
- * slice takes two words a pair. Once the run begins, and whether or not it is stopped, the slice holds the finished registers in
- * order, then zeros; until then no word is written. Zeroing takes time, too: lend near the need. */
+ * list: the kind of instruction i is word 3i, its a and b are the two behind it. The place of 10 and 11 is the instruction.
+ * The work slice takes two words a pair. A register gives up its pairs after its last use, or after its making if nothing uses it; the
+ * last register lives to the end. 10 falls at the first instruction where the registers that live before it, its operands included,
+ * and its own result together have more pairs than the slice takes; 11 comes before it. After an accepted run the slice holds the last
+ * register, then zeros; after 10 and 11 the registers that lived before that instruction, in order, then zeros; after other refusals
+ * it is untouched.
+ * To see register i, run the first 3 * (i + 1) words of the list: where the run of the whole gets past instruction i, that run is
+ * accepted with as many work words, and leaves just register i. Zeroing takes time, too: lend near the need. */
 uint32_t matcher_run(const uint32_t *feed, size_t feed_len, const uint32_t *list, size_t list_len, uint32_t *work, size_t work_len,
                      uint32_t *place);
 
-/* Checks a feed and a drawing, translates the drawing, runs the translation and gives the rows: 1 to 7 and 10 to 13. The list and the
- * work slice end up as after a translation and a run. The rows, one behind the other, are the first `row_words` words of the row
- * slice, 0 on a refusal; the words after them are untouched. After 12 the row slice is all zeros; after other refusals it is
- * untouched. */
+/* Checks a feed and a drawing, translates the drawing, runs the translation and gives the rows: 1 to 7 and 10 to 13. The list ends up
+ * as after a translation. The work slice is used as in a run, but here the last node's register and the final path of each picked
+ * node live to the end: after an accepted query and after 12 the slice holds these, by register number, then zeros; after 10 and 11
+ * the registers that lived before that instruction, in order, then zeros; after other refusals it is untouched. The rows, one behind
+ * the other, are the first `row_words` words of the row slice, 0 on a refusal; the words after them are untouched. After 12 the row
+ * slice is all zeros; after other refusals it is untouched. */
 uint32_t matcher_query(const uint32_t *feed, size_t feed_len, const uint32_t *drawing, size_t drawing_len, uint32_t *list,
                        size_t list_len, uint32_t *work, size_t work_len, uint32_t *rows, size_t rows_len, uint32_t *place,
                        size_t *row_words);

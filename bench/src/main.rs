@@ -8,11 +8,16 @@ mod operands;
 mod operators;
 mod peer;
 mod report;
+#[allow(dead_code)]
+mod room;
 
 // shared with the tests: random feeds and lists
 #[allow(dead_code)]
 #[path = "../../tests/host/src/cases.rs"]
 mod cases;
+#[allow(dead_code)]
+#[path = "../../tests/host/src/living.rs"]
+mod living;
 #[allow(dead_code)]
 #[path = "../../tests/host/src/model.rs"]
 mod model;

@@ -12,8 +12,9 @@ const HEAD: &str = "\
 
 Written by `bench/run`; x86-64, one core. Each operator of `matcher_run` is timed beside an unproved one in Rust (`bench/src/peer/`, optimised, plain x86-64): the
 same algorithms over the same work slice, written for speed. The two take turns in one process. A time is the difference between a list that repeats the
-operator and one without it, so that checks, loads and the making of the operands cancel; it is a median of many in three passes, in processor time. Both first ran
-each list, and 40,000 random ones, and gave the same number, place and words.
+operator and one that has it once, so that checks, loads, the making of the operands and the giving up of these cancel; it is a median of many in three passes, in processor
+time. A result that is not used is given up at once, so each is written where the one before it stood; the work slice has room for any register more than is needed. Both first ran
+each list with just the words that it needs and with one less, and 40,000 random ones, and gave the same number, place and words.
 
 A size is that of the operand, or of the result where that is larger; of intersection, union and difference it is that of the union. Larger operands than
 the 4,096 pairs of a table in a feed are made by unions; loads are timed at 1,000 and 4,096 stored pairs, of which a two-way label gives up to twice as many.

@@ -155,18 +155,42 @@ static void translations(struct tally *t)
     holds(t, "translate, refused, list", &lent, list, 0, FILL);
 }
 
+/* The sample's list with this many work words: accepted, and the slice holds the last register, then zeros. */
+static void one_run(struct tally *t, const char *what, size_t work_words)
+{
+    struct answer a;
+    struct words lent;
+    uint32_t *work = lend(&lent, work_words);
+    says(t, what, matcher_run(FEED, LIST, work, lent.len, &ready(&a)->place), &a, 0, 0);
+    holds(t, what, &lent, registers + TAU, COUNT(registers) - TAU, 0);
+}
+
+/* With a word less than it needs it is stopped at instruction 5, before which the loads live. */
 static void runs(struct tally *t)
 {
     struct answer a;
     struct words lent;
-    uint32_t *work = lend(&lent, COUNT(registers) + 3);
-    uint32_t number = matcher_run(FEED, LIST, work, lent.len, &ready(&a)->place);
-    says(t, "run", number, &a, 0, 0);
-    holds(t, "run, work", &lent, registers, COUNT(registers), 0);
-    work = lend(&lent, COUNT(registers) - 1);
-    number = matcher_run(FEED, LIST, work, lent.len, &ready(&a)->place);
-    says(t, "run, stopped", number, &a, 10, 11);
-    holds(t, "run, stopped, work", &lent, registers, COUNT(registers) - 4, 0);
+    uint32_t *work = lend(&lent, WORK - 1);
+    one_run(t, "run, 42 words", 42);
+    one_run(t, "run, 43 words", 43);
+    one_run(t, "run, room for all registers", COUNT(registers));
+    same(t, "run, 41 words: one short", lent.len, 41);
+    says(t, "run, 41 words", matcher_run(FEED, LIST, work, lent.len, &ready(&a)->place), &a, 10, 5);
+    holds(t, "run, 41 words, work", &lent, registers, LOADS, 0);
+}
+
+/* The sample's list cut behind each instruction: in the words that the whole needs, accepted, and the slice holds that register alone. */
+static void cut_runs(struct tally *t)
+{
+    struct answer a;
+    struct words lent;
+    size_t i;
+    for (i = 0; i < COUNT(ends); i++) {
+        size_t begin = i == 0 ? 0 : ends[i - 1];
+        uint32_t *work = lend(&lent, WORK);
+        says(t, "run, cut", matcher_run(FEED, list, 3 * (i + 1), work, lent.len, &ready(&a)->place), &a, 0, 0);
+        holds(t, "run, cut, work", &lent, registers + begin, ends[i] - begin, 0);
+    }
 }
 
 /* A run of the sample's list in which the word at this place has another value: this number at that place, and the work slice is as it was. */
@@ -192,9 +216,10 @@ static void refused_runs(struct tally *t)
     one_refused_run(t, "run, unused word", 29, 1, 17);
 }
 
-/* A query with so many work and row words: number and place, and how many words of registers and of rows there are; `rest` stands behind the rows. */
+/* A query with so many work and row words: number and place, and how many words of rows there are; `rest` stands behind them. Where it is accepted,
+ * and after 12, the work slice holds what the query keeps; after 10 the first `standing` words of what it leaves there. */
 static void one_query(struct tally *t, const char *what, const struct question *q, size_t work_words, size_t row_words, uint32_t number,
-                      uint32_t place, size_t done, size_t given, uint32_t rest)
+                      uint32_t place, size_t standing, size_t given, uint32_t rest)
 {
     struct answer a;
     struct words to, work, out;
@@ -204,15 +229,26 @@ static void one_query(struct tally *t, const char *what, const struct question *
     says(t, what, found, &a, number, place);
     same(t, what, a.count, given);
     holds(t, what, &to, q->list.words, q->list.n, 0);
-    holds(t, what, &work, q->registers.words, done, 0);
+    holds(t, what, &work, number == 10 ? q->stopped.words : q->kept.words, standing, 0);
     holds(t, what, &out, q->rows.words, given, rest);
+}
+
+/* A query with the work words that it needs, with more, with too few row words, and with a work word less: then it is stopped at this place. */
+static void about(struct tally *t, const char *what, const struct question *q, uint32_t place)
+{
+    const size_t kept = q->kept.n, given = q->rows.n;
+    one_query(t, what, q, q->work_words, given + 1, 0, 0, kept, given, FILL);
+    one_query(t, what, q, q->work_words + 3, given, 0, 0, kept, given, FILL);
+    one_query(t, what, q, q->work_words, given - 1, 12, 0, kept, 0, 0);
+    one_query(t, what, q, q->work_words - 1, given, 10, place, q->stopped.n, 0, FILL);
 }
 
 static void queries(struct tally *t)
 {
-    const size_t exact = COUNT(registers);
-    one_query(t, "query", &sample, exact, COUNT(rows) + 3, 0, 0, exact, COUNT(rows), FILL);
-    one_query(t, "query, refused", &sample, exact, COUNT(rows) - 1, 12, 0, exact, 0, 0);
+    about(t, "query", &sample, 5);
+    one_query(t, "query, 42 words", &sample, 42, 4, 0, 0, 12, 4, FILL);
+    one_query(t, "query, 41 words", &sample, 41, 4, 10, 5, 36, 0, FILL);
+    one_query(t, "query, room for all registers", &sample, COUNT(registers), 4, 0, 0, 12, 4, FILL);
 }
 
 static void sheets(struct tally *t)
@@ -256,7 +292,7 @@ static void paging(struct tally *t)
 static void two_way(struct tally *t)
 {
     static const uint32_t marked_class[] = {1, 0, 32768}, no_pairs[] = {0, 1, 32768}, too_many[] = {0, 1, 36865};
-    const size_t exact = COUNT(two_way_registers), text = sizeof two_way_listing - 1;
+    const size_t text = sizeof two_way_listing - 1;
     struct answer a;
     struct bytes lent;
     uint8_t *to = lend_bytes(&lent, text + 1);
@@ -264,8 +300,7 @@ static void two_way(struct tally *t)
     says(t, "a two-way label, no pairs", matcher_check_feed(no_pairs, COUNT(no_pairs), &ready(&a)->place), &a, 0, 0);
     says(t, "a two-way label, too many", matcher_check_feed(too_many, COUNT(too_many), &ready(&a)->place), &a, 2, 2);
     says(t, "a marked class", matcher_check_feed(marked_class, COUNT(marked_class), &ready(&a)->place), &a, 2, 2);
-    one_query(t, "query, two-way", &two_way_sample, exact, 3, 0, 0, exact, COUNT(two_way_rows), FILL);
-    one_query(t, "query, two-way, a word short", &two_way_sample, exact - 1, 3, 10, 7, exact - 2, 0, FILL);
+    about(t, "query, two-way", &two_way_sample, 3);
     one_query(t, "query, two-way, no room for the label", &two_way_sample, 7, 3, 10, 2, 4, 0, FILL);
     same(t, "sheet_query, two-way", matcher_sheet_query((const uint8_t *)two_way_sheet, sizeof two_way_sheet - 1, to, lent.len), text);
     holds_bytes(t, "sheet_query, two-way, listing", &lent, two_way_listing, text, FILL & 0xff);
@@ -274,17 +309,19 @@ static void two_way(struct tally *t)
 /* Region 2 between two others, with room for all and with less; and region 7, which is in no class: no rows, and no refusal. */
 static void fixed(struct tally *t)
 {
-    const size_t exact = COUNT(fixed_registers), text = sizeof fixed_listing - 1;
-    uint32_t other[COUNT(fixed_drawing)], place, work[COUNT(fixed_registers)], out[] = {FILL}, to[COUNT(fixed_list)];
+    const size_t text = sizeof fixed_listing - 1;
+    uint32_t other[COUNT(fixed_drawing)], place, work[FIXED_WORK], out[] = {FILL}, to[COUNT(fixed_list)];
     size_t given = 1;
     struct bytes lent;
     uint8_t *bytes = lend_bytes(&lent, text + 1);
-    one_query(t, "query, fixed", &fixed_sample, exact, 3, 0, 0, exact, COUNT(fixed_rows), FILL);
-    one_query(t, "query, fixed, a word short", &fixed_sample, exact - 1, 3, 10, 12, exact - 2, 0, FILL);
-    one_query(t, "query, fixed, no room for kind 14", &fixed_sample, 17, 3, 10, 2, 16, 0, FILL);
+    struct question at_two = fixed_sample;
+    at_two.stopped = sample.stopped;
+    about(t, "query, fixed", &fixed_sample, 6);
+    /* before kind 14 the class stands twice, as it does before the sample's third load */
+    one_query(t, "query, fixed, no room for kind 14", &at_two, 17, 3, 10, 2, 16, 0, FILL);
     memcpy(other, fixed_drawing, sizeof other);
     other[7] = 7;
-    same(t, "query, outside the class", matcher_query(FEED, other, COUNT(other), to, COUNT(to), work, exact, out, 1, &place, &given), 0);
+    same(t, "query, outside the class", matcher_query(FEED, other, COUNT(other), to, COUNT(to), work, COUNT(work), out, 1, &place, &given), 0);
     same(t, "query, outside the class, rows", given == 0 && out[0] == FILL, 1);
     same(t, "sheet_query, fixed", matcher_sheet_query((const uint8_t *)fixed_sheet, sizeof fixed_sheet - 1, bytes, lent.len), text);
     holds_bytes(t, "sheet_query, fixed, listing", &lent, fixed_listing, text, FILL & 0xff);
@@ -295,6 +332,7 @@ static void all_calls(struct tally *t)
     checks(t);
     translations(t);
     runs(t);
+    cut_runs(t);
     refused_runs(t);
     queries(t);
     sheets(t);
@@ -377,7 +415,7 @@ static void null_bytes(struct tally *t)
 
 static void unwritten(struct tally *t)
 {
-    const size_t words[] = {COUNT(list), COUNT(registers), COUNT(rows)};
+    const size_t words[] = {COUNT(list), WORK, COUNT(rows)}, kept = sample.kept.n;
     uint32_t place, *lent[3];
     size_t i, count, exact = sizeof listing - 1, whole = sizeof pages - 1;
     uint8_t *to = (uint8_t *)malloc(exact), *paper = (uint8_t *)malloc(whole);
@@ -390,7 +428,9 @@ static void unwritten(struct tally *t)
     same(t, "unwritten, query", matcher_query(FEED, DRAWING, lent[0], words[0], lent[1], words[1], lent[2], words[2], &place, &count), 0);
     same(t, "unwritten, rows", count == COUNT(rows) && memcmp(lent[2], rows, sizeof rows) == 0, 1);
     same(t, "unwritten, list", memcmp(lent[0], list, sizeof list), 0);
-    same(t, "unwritten, registers", memcmp(lent[1], registers, sizeof registers), 0);
+    same(t, "unwritten, work", memcmp(lent[1], sample.kept.words, kept * sizeof(uint32_t)), 0);
+    for (i = kept; i < WORK; i++)
+        same(t, "unwritten, zeros", lent[1][i], 0);
     same(t, "unwritten, sheet query", matcher_sheet_query(SHEET, to, exact), exact);
     same(t, "unwritten, listing", memcmp(to, listing, exact), 0);
     same(t, "unwritten, sheet pages", matcher_sheet_pages(SHEET, paper, whole, &place, &count), 0);

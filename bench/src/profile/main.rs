@@ -25,6 +25,9 @@ mod random;
 #[path = "../query/reduction.rs"]
 mod reduction;
 #[allow(dead_code)]
+#[path = "../room.rs"]
+mod room;
+#[allow(dead_code)]
 #[path = "../query/turns.rs"]
 mod turns;
 
@@ -46,8 +49,7 @@ fn main() {
     // the unproved algebra tells what is to be lent
     let mut algebra = Algebra::new(&frame.feed, &words, AMPLE);
     let rows = algebra.ask().expect("the drawing is not refused on this frame").len();
-    let list = algebra.reduction.list.len();
-    let work = algebra.fit(list / 3);
+    let (list, work) = (algebra.reduction.list.len(), algebra.room().words());
     let mut proved = Proved::new(&frame.feed, &words, list, work, rows);
     for _ in 0..number(times) {
         assert_eq!(proved.ask().map(<[u32]>::len), Ok(rows), "the proved query and the unproved algebra differ");

@@ -1,12 +1,14 @@
 //! The five matchers side by side: their rows compared, then their times, turn by turn.
 
 use crate::algebra::Algebra;
+use crate::alike::ask_both_with_need;
 use crate::backtracking;
 use crate::clock::median;
 use crate::drawings::Drawing;
 use crate::frame::Frame;
 use crate::index::Index;
 use crate::proved::Proved;
+use crate::room::Room;
 use crate::sqlite::{Database, Statement};
 use crate::turns::{take_turns, timed, usual, Matcher, AMPLE};
 
@@ -51,8 +53,9 @@ impl<'f> Ready<'f> {
 pub struct Cell {
     pub regions: usize,
     pub rows: usize,
-    /// pairs of all registers
-    pub pairs: usize,
+    pub instructions: usize,
+    /// up to a refusal
+    pub room: Room,
     pub refused: Option<(u32, u32)>,
     turns: Vec<[f64; NAMES.len()]>,
 }
@@ -70,7 +73,8 @@ impl Cell {
 
     /// Whether all that does not depend on the objects' numbers is the same.
     pub fn is_like(&self, other: &Cell) -> bool {
-        (self.regions, self.rows, self.pairs, self.refused) == (other.regions, other.rows, other.pairs, other.refused)
+        let all = |cell: &Cell| (cell.regions, cell.rows, cell.instructions, cell.room, cell.refused);
+        all(self) == all(other)
     }
 
     /// Asks all five, compares what they answer, and adds times for so many seconds.
@@ -83,21 +87,19 @@ impl Cell {
         let mut algebra = Algebra::new(feed, &words, AMPLE);
         let rows = search.ask().expect("a search refuses nothing").to_vec();
         let refused = algebra.ask().err();
-        let list = algebra.reduction.list.clone();
-        let work = algebra.fit(refused.map_or(list.len() / 3, |(_, place)| place as usize));
-        let mut proved = Proved::new(feed, &words, list.len(), work, rows.len());
+        let (room, list) = (algebra.room(), algebra.reduction.list.len());
+        let mut proved = Proved::new(feed, &words, list, room.words(), rows.len());
 
-        let answer = refused.map_or(Ok(&rows[..]), Err);
-        assert!(sqlite.ask() == Ok(&rows), "{}: SQLite and the search differ", drawing.name);
-        assert!(from_words.ask() == Ok(&rows), "{}: the two searches differ", drawing.name);
-        assert!(algebra.ask() == answer, "{}: the unproved algebra and the search differ", drawing.name);
-        assert!(proved.ask() == answer, "{}: the proved query and the search differ", drawing.name);
-        assert!(proved.list == list, "{}: the translations differ", drawing.name);
+        let name = drawing.name;
+        let answer = ask_both_with_need(name, &mut proved, &mut algebra);
+        assert!(sqlite.ask() == Ok(&rows), "{name}: SQLite and the search differ");
+        assert!(from_words.ask() == Ok(&rows), "{name}: the two searches differ");
+        assert!(answer.as_deref() == refused.as_ref().map_or(Ok(&rows[..]), Err), "{name}: the algebras and the search differ");
 
-        let (regions, rows, pairs) = (ready.frame.regions, rows.len() / drawing.picks().len(), work / 2);
+        let (regions, rows, instructions) = (ready.frame.regions, rows.len() / drawing.picks().len(), list / 3);
         let mut turns = std::mem::take(&mut self.turns);
         turns.extend(take_turns([&mut proved, &mut sqlite, &mut *search, &mut algebra, &mut *from_words], seconds));
-        *self = Cell { regions, rows, pairs, refused, turns };
+        *self = Cell { regions, rows, instructions, room, refused, turns };
     }
 }
 

@@ -3,6 +3,7 @@
 //! figure. `bench/query` builds and runs it.
 
 mod algebra;
+mod alike;
 mod backtracking;
 mod contest;
 mod drawings;
@@ -17,6 +18,7 @@ mod sqlite;
 mod text;
 mod turns;
 mod two_way;
+mod work;
 
 // shared with the operators' bench and the tests
 #[path = "../clock.rs"]
@@ -28,12 +30,13 @@ mod peer;
 #[allow(dead_code)]
 #[path = "../../../tests/host/src/random.rs"]
 mod random;
+#[path = "../room.rs"]
+mod room;
 
 use contest::{Cell, Ready};
 use drawings::Drawing;
 use frame::{Frame, Numbers, SIZES};
-use turns::PASSES;
-use turns::Pair;
+use turns::{Ways, PASSES};
 use two_way::Feeds;
 
 /// The part of a figure's time that is spent on a frame whose numbers are not dense.
@@ -62,20 +65,20 @@ pub struct Results {
 pub struct Touching {
     /// for each frame: its words with both directions and with each pair once; the checks of both
     feeds: Vec<(usize, [usize; 2], [f64; 2])>,
-    /// for each drawing, a pair of times for each of these frames
-    pairs: Vec<Vec<Pair>>,
+    /// for each drawing, the times on each of these frames
+    times: Vec<Vec<Ways<2>>>,
 }
 
 fn stored_once(frames: &[Frame], drawings: &[Drawing], seconds: f64) -> Touching {
     let feeds: Vec<Feeds> = frames.iter().filter(|frame| frame.both).map(Feeds::new).collect();
-    let mut pairs: Vec<Vec<Pair>> = drawings.iter().map(|_| feeds.iter().map(|_| Pair::default()).collect()).collect();
+    let mut times: Vec<Vec<Ways<2>>> = drawings.iter().map(|_| feeds.iter().map(|_| Ways::default()).collect()).collect();
     for _ in 0..PASSES {
-        for (drawing, pairs) in drawings.iter().zip(&mut pairs) {
-            feeds.iter().zip(pairs).for_each(|(feeds, pair)| two_way::measure(pair, feeds, drawing, seconds / PASSES as f64));
+        for (drawing, times) in drawings.iter().zip(&mut times) {
+            feeds.iter().zip(times).for_each(|(feeds, ways)| two_way::measure(ways, feeds, drawing, seconds / PASSES as f64));
         }
     }
     let words = |feeds: &Feeds| (feeds.frame.regions, [feeds.frame.feed.len(), feeds.once.len()], feeds.checks());
-    Touching { feeds: feeds.iter().map(words).collect(), pairs }
+    Touching { feeds: feeds.iter().map(words).collect(), times }
 }
 
 /// Measures every drawing on every one of these frames once more.

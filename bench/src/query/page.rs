@@ -6,11 +6,12 @@ use crate::drawings::{Drawing, BOTTLE, CAP_FIXED};
 use crate::figures::count;
 use crate::frame::{CLASSES, LABELS};
 use crate::text::{micro, ratio, row};
-use crate::{numbers, sqlite, Results};
+use crate::two_way::{BOTH, ONCE};
+use crate::{numbers, sqlite, work, Results};
 
 const MATCHERS: &str = "\
 - *proved query*: `matcher_query`. It checks the feed and the drawing, translates the drawing, runs the translation and reads the rows. Each slice is lent with just the words
-  that are needed.
+  that are needed; of the work slice that is what *Work words* tells.
 - *SQLite* VERSION in process and in memory: tables indexed both ways, one `SELECT DISTINCT … ORDER BY` for each drawing, prepared once. It is prepared in a database with
   statistics (`ANALYZE`) and in one without; the quicker one counts.
 - *backtracking*: a search in Rust. Next is the node with most edges to those before it, of these the one of the smallest class, or a fixed one. Candidates come from the shortest
@@ -19,7 +20,7 @@ const MATCHERS: &str = "\
   in the directions that the search looks at, by counting, in slices that it keeps from query to query. The feed is not checked.
 - *unproved algebra*: the same translation, run and rows by the same algorithms in plain Rust (`bench/src/query/algebra.rs` over `bench/src/peer/`), which are told below.
 
-All five first gave the same rows, both algebras the same instructions and the same refusal; otherwise the bench fails. Then they take turns. A time is processor time, the median of the turns in three passes.
+All five first gave the same rows, both algebras the same instructions, the same refusal and the same words in the work slice; otherwise the bench fails. Then they take turns. A time is processor time, the median of the turns in three passes.
 **A ratio is the other's time to the proved query's, the median of the turns: above 1 the proved query is faster.** The tables and the statement of SQLite and the index and the order of nodes of
 the search are ready before the clock starts. The proved query starts from the words of feed and drawing each time, and the search from the words from those of the feed. What that spares the
 others is told under *Before the first query*.
@@ -50,7 +51,7 @@ There SQLite begins at the few objects of a small class, or at a known one, goes
 
 const SEARCH: &str = "\
 Document 01 fixes the program and the registers: every table is loaded as a whole; every combination writes two tags and tau for each pair of its table, and anew the edges at both ends and the \
-path of each picked node; all registers stay in the work slice, and their pairs, beside the rows, tell how much more is written. A search writes nothing but its rows, and begins where there is \
+path of each picked node; a register is given up after its last use, but the pairs of all registers, beside the rows, tell how much more is written. A search writes nothing but its rows, and begins where there is \
 least to try: on the bottle, the tray and the tree it looks at a few regions around a small class, the program at every touching pair. Where many embeddings share a row the program composes the \
 unpicked middles of a chain away, and a search goes through each of them.";
 
@@ -75,6 +76,7 @@ Both algebras work in the same ways:
   union of what is found, by marks or by merges; it is found by an index with a word for each number of the range, or by halving.
 - *inverse*: by counts where the rights lie close, else by merges.
 - *intersection* of a table with one that has eight times as many pairs, or more: each pair is sought from the last place on, in steps that double, then by halving. Else by one pass over both.
+- *registers*: one pass over the list finds the last use of each. After an instruction, what it used last gives up its pairs, and what stands behind is moved down, each pair at most once.
 - *rows*: read as they stand where they ascend; else their places are sorted.
 ";
 
@@ -107,7 +109,7 @@ fn figures(cell: &Cell) -> [String; 6] {
     let other = |which| ratio(cell.ratio(which));
     let time = |which| format!("({} µs)", micro(cell.time(which)));
     match cell.refused {
-        None => [count(cell.pairs), micro(cell.time(PROVED)), other(SQLITE), other(BACKTRACKING), other(FROM_WORDS), other(UNPROVED)],
+        None => [count(cell.room.all), micro(cell.time(PROVED)), other(SQLITE), other(BACKTRACKING), other(FROM_WORDS), other(UNPROVED)],
         Some((number, place)) => {
             let refused = format!("refused: {number} at {place}");
             [String::new(), refused, time(SQLITE), time(BACKTRACKING), time(FROM_WORDS), "refused".into()]
@@ -244,7 +246,7 @@ fn one_cap(results: &Results) -> String {
     );
     let mut ratios = Vec::new();
     for (a, b) in all.iter().zip(one) {
-        let sizes = [a.regions, a.rows, b.rows, a.pairs, b.pairs].map(count);
+        let sizes = [a.regions, a.rows, b.rows, a.room.all, b.room.all].map(count);
         let times = [a, b].map(|cell| micro(cell.time(PROVED)));
         let saved = [PROVED, SQLITE, BACKTRACKING].map(|which| a.time(which) / b.time(which));
         ratios.push(saved[0]);
@@ -290,13 +292,14 @@ fn stored_once(results: &Results) -> String {
     let mut text =
         String::from("| drawing | regions | rows | both directions, µs | each pair once, µs | once / both |\n|---|---:|---:|---:|---:|---:|\n");
     let mut ratios = Vec::new();
-    for (drawing, pairs) in results.drawings.iter().zip(&results.touching.pairs) {
-        for (i, pair) in pairs.iter().enumerate() {
+    for (drawing, times) in results.drawings.iter().zip(&results.touching.times) {
+        for (i, ways) in times.iter().enumerate() {
             let name = if i == 0 { drawing.name } else { "" };
-            let [both, once] = pair.times().map(micro);
-            let rows = pair.refused.map_or(count(pair.rows), |(number, place)| format!("refused: {number} at {place}"));
-            ratios.push((pair.ratio(), format!("{}, {}", drawing.name, count(pair.regions))));
-            text += &row([name.into(), count(pair.regions), rows, both, once, ratio(pair.ratio())]);
+            let [both, once] = ways.times().map(micro);
+            let rows = ways.refused.map_or(count(ways.rows), |(number, place)| format!("refused: {number} at {place}"));
+            let slower = ways.ratio(ONCE, BOTH);
+            ratios.push((slower, format!("{}, {}", drawing.name, count(ways.regions))));
+            text += &row([name.into(), count(ways.regions), rows, both, once, ratio(slower)]);
         }
     }
     ratios.sort_by(|a, b| a.0.total_cmp(&b.0));
@@ -317,6 +320,8 @@ pub fn page(results: &Results) -> String {
         &[beside_sqlite(results), beside_search(results), from_words(results), beside_unproved(results)].join("\n"),
         "\nThe fixed cost, as time of a query where all tables are empty:\n\n",
         &fixed_cost(results),
+        "\n## Work words\n\n",
+        &work::section(results),
         "\n## Other numbers\n\n",
         &numbers::section(results),
         "\n## What a fixed node saves\n\n",

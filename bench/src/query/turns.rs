@@ -41,28 +41,28 @@ pub fn take_turns<const N: usize>(mut matchers: [&mut dyn Matcher; N], seconds: 
     turns
 }
 
-/// What is known of one drawing on one frame that is answered in two ways.
+/// What is known of one drawing on one frame that is answered in so many ways.
 #[derive(Default)]
-pub struct Pair {
+pub struct Ways<const N: usize> {
     pub regions: usize,
     pub rows: usize,
     pub refused: Option<(u32, u32)>,
-    turns: Vec<[f64; 2]>,
+    turns: Vec<[f64; N]>,
 }
 
-impl Pair {
-    /// Seconds of a query in either way.
-    pub fn times(&self) -> [f64; 2] {
-        [0, 1].map(|which| median(self.turns.iter().map(|turn| turn[which]).collect()))
+impl<const N: usize> Ways<N> {
+    /// Seconds of a query in each way.
+    pub fn times(&self) -> [f64; N] {
+        std::array::from_fn(|way| median(self.turns.iter().map(|turn| turn[way]).collect()))
     }
 
-    /// The second way's time to the first's: the median of the turns.
-    pub fn ratio(&self) -> f64 {
-        median(self.turns.iter().map(|turn| turn[1] / turn[0]).collect())
+    /// One way's time to another's: the median of the turns.
+    pub fn ratio(&self, way: usize, to: usize) -> f64 {
+        median(self.turns.iter().map(|turn| turn[way] / turn[to]).collect())
     }
 
     /// Adds times for so many seconds.
-    pub fn add(&mut self, ways: [&mut dyn Matcher; 2], seconds: f64) {
+    pub fn add(&mut self, ways: [&mut dyn Matcher; N], seconds: f64) {
         self.turns.extend(take_turns(ways, seconds));
     }
 }

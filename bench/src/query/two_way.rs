@@ -5,7 +5,7 @@ use crate::algebra::Algebra;
 use crate::drawings::Drawing;
 use crate::frame::{Frame, TOUCH};
 use crate::proved::Proved;
-use crate::turns::{usual, Matcher, Pair, AMPLE};
+use crate::turns::{usual, Matcher, Ways, AMPLE};
 
 /// A frame as both feeds tell it: both directions stored, and each pair once.
 pub struct Feeds<'f> {
@@ -27,26 +27,28 @@ impl<'f> Feeds<'f> {
     }
 }
 
-/// Asks over both feeds, compares rows, instructions and every register, and adds times for so many seconds: with both directions stored, and
-/// with each pair once.
-pub fn measure(pair: &mut Pair, feeds: &Feeds, drawing: &Drawing, seconds: f64) {
+/// The ways of `measure`: with both directions stored, and with each pair once.
+pub const BOTH: usize = 0;
+pub const ONCE: usize = 1;
+
+/// Asks over both feeds, compares rows, instructions and every register, and adds times for so many seconds.
+pub fn measure(ways: &mut Ways<2>, feeds: &Feeds, drawing: &Drawing, seconds: f64) {
     let (name, words) = (drawing.name, drawing.on(feeds.frame).words());
     let mut unproved = [&feeds.frame.feed, &feeds.once].map(|feed| Algebra::new(feed, &words, AMPLE));
     let answers = unproved.each_mut().map(|algebra| algebra.ask().map(<[u32]>::to_vec));
     assert!(answers[0] == answers[1], "{name}: the two feeds give different rows");
     let [both, once] = &mut unproved;
     assert!(both.reduction.list == once.reduction.list, "{name}: the two feeds give different instructions");
-    assert!(both.work == once.work, "{name}: the two feeds give different registers");
+    assert!(both.all_registers() == once.all_registers(), "{name}: the two feeds give different registers");
 
-    let (answer, list) = (&answers[0], &both.reduction.list);
-    let refused = answer.as_ref().err().copied();
-    let work = both.fit(refused.map_or(list.len() / 3, |(_, place)| place as usize));
+    let (answer, list, work) = (&answers[0], both.reduction.list.len(), both.room().words());
     let row_words = answer.as_ref().map_or(0, Vec::len);
-    let mut proved = [&feeds.frame.feed, &feeds.once].map(|feed| Proved::new(feed, &words, both.reduction.list.len(), work, row_words));
+    let mut proved = [&feeds.frame.feed, &feeds.once].map(|feed| Proved::new(feed, &words, list, work, row_words));
     for one in &mut proved {
         assert!(one.ask().map(<[u32]>::to_vec) == *answer, "{name}: the proved query and the unproved algebra differ");
     }
     let [first, second] = &mut proved;
-    pair.add([first, second], seconds);
-    (pair.regions, pair.rows, pair.refused) = (feeds.frame.regions, row_words / drawing.picks().len(), refused);
+    assert!(first.work == second.work, "{name}: the two feeds give different words in the work slice");
+    ways.add([first, second], seconds);
+    (ways.regions, ways.rows, ways.refused) = (feeds.frame.regions, row_words / drawing.picks().len(), answer.as_ref().err().copied());
 }

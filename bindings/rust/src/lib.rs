@@ -52,7 +52,7 @@ impl Refusal {
             7 => "no picked node",
             8 => "no instruction, over 1,024, or words not a multiple of 3",
             9 => "unknown kind",
-            10 => "the registers so far hold more pairs than the work slice takes",
+            10 => "the registers still living and the instruction's own result have more pairs than the work slice takes",
             11 => "a register over 65,536 pairs",
             12 => "the row slice is too short for the rows, or the page buffer for the pages",
             13 => "the instruction slice is shorter than the translation",
@@ -125,9 +125,13 @@ pub fn translate(feed: &[u32], drawing: &[u32], list: &mut [u32]) -> Result<usiz
 }
 
 /// Checks a feed and an instruction list, then runs the list: refusals 1 to 4, 8 to 11, 16 and 17. The place of 9, 16 and 17 is a word of the list:
-/// the kind of instruction i is word 3i, its a and b are the two behind it. The place of 10 and 11 is the instruction. The work slice takes two words
-/// a pair. After the run, accepted or stopped by 10 or 11, it holds the finished registers, then zeros; after other refusals it is untouched. Zeroing
-/// takes time: lend near the need.
+/// the kind of instruction i is word 3i, its a and b are the two behind it. The place of 10 and 11 is the instruction.
+///
+/// The work slice takes two words a pair. A register gives up its pairs after its last use, or after its making if nothing uses it; the last register
+/// lives to the end. 10 falls where the registers that live before an instruction, its operands included, and its own result together have more pairs
+/// than the slice takes. After an accepted run the slice holds the last register, then zeros; after 10 and 11 the registers that lived before that
+/// instruction, in order, then zeros; after other refusals it is untouched. To see register i, run the first 3 × (i + 1) words of the list: where the
+/// run of the whole gets past instruction i, as many work words suffice for it. Zeroing takes time: lend near the need.
 pub fn run(feed: &[u32], list: &[u32], work: &mut [u32]) -> Result<(), Refusal> {
     let mut place = 0;
     let (f, l, w) = (feed.as_ptr(), list.as_ptr(), work.as_mut_ptr());
@@ -138,7 +142,8 @@ pub fn run(feed: &[u32], list: &[u32], work: &mut [u32]) -> Result<(), Refusal> 
 
 /// Checks a feed and a drawing, translates the drawing, runs the translation and gives the rows, one behind the other: refusals 1 to 7 and 10 to 13.
 /// The rows are the first words of the row slice; those behind them are untouched. After 12 the row slice is all zeros, after other refusals
-/// untouched. The list and the work slice end up as after [`translate`] and [`run`].
+/// untouched. The list ends up as after [`translate`]. The work slice is used as in [`run`], but here the last node's register and the final path of
+/// each picked node live to the end: where the query is accepted, and after 12, it holds these, by register number, then zeros.
 pub fn query<'r>(
     feed: &[u32],
     drawing: &[u32],

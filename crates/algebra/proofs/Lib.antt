@@ -9,5 +9,4 @@ pub mod Faults
 pub mod Sizes
 pub mod Operands
 pub mod Living
-pub mod Reuse
 pub mod Cut

@@ -3,7 +3,7 @@ pub mod Faults
 pub mod Instructions
 pub mod Living
 pub mod Operators
-pub mod Reuse
+pub mod Registers
 pub mod Run
 pub mod Sizes
 pub mod inner

@@ -70,22 +70,21 @@ fn show_check(name: &[u8], feed: &[u32], d: Drawing) {
     show(name, number, place, &words[0..n]);
 }
 
-// The rows of a drawing, in the part that the query hands back of a slice of so many words.
-fn show_rows(name: &[u8], feed: &[u32], d: Drawing, rows: &mut [u32]) {
+// The rows of a drawing, in the part that the query hands back of a slice of so many words; with so many work words.
+fn show_rows(name: &[u8], feed: &[u32], d: Drawing, work: &mut [u32], rows: &mut [u32]) {
     let mut words = [0u32; DRAWING_WORDS];
     let n = d.write(&mut words);
     if words.len() < n {
         return;
     }
     let mut list = [0u32; LIST_WORDS];
-    let mut work = [0u32; 200];
     let mut number = 0;
     let mut place = 0;
     let part = query(
         feed,
         &words[0..n],
         &mut list,
-        &mut work,
+        work,
         rows,
         &mut number,
         &mut place,
@@ -102,19 +101,27 @@ fn row_of_three(middle: u32) -> Drawing {
     first.with_edge(0, 1, 2).drawing
 }
 
-// Document 01's sheet: its words, its rows, and no part of a slice that is too short.
+// Document 01's sheet: its words, its rows, and no part of a slice that is too short. Of 42 work words the paths and the last node's register stay; with
+// 41 there is no room at instruction 5, before which the loads stand.
 fn sheet() {
     let feed = [1u32, 1, 4, 3, 1, 1, 2, 2, 3, 3, 4, 4, 1, 2, 2, 3, 3, 4];
     let d = row_of_three(ANY_OBJECT);
     show_check(b"sheet", &feed, d);
+    let mut work = [7u32; 42];
     let mut nine = [7u32; 9];
-    show_rows(b"its rows", &feed, d, &mut nine);
+    show_rows(b"its rows", &feed, d, &mut work, &mut nine);
     show(b"the slice", 0, 0, &nine);
+    show(b"the work slice", 0, 0, &work);
     let mut four = [7u32; 4];
-    show_rows(b"in four words", &feed, d, &mut four);
+    show_rows(b"in four words", &feed, d, &mut work, &mut four);
     let mut three = [7u32; 3];
-    show_rows(b"in three words", &feed, d, &mut three);
+    show_rows(b"in three words", &feed, d, &mut work, &mut three);
     show(b"the slice", 0, 0, &three);
+    show(b"the work slice", 0, 0, &work);
+    let mut short = [7u32; 41];
+    show_rows(b"with 41 work words", &feed, d, &mut short, &mut four);
+    show(b"the slice", 0, 0, &four);
+    show(b"the work slice", 0, 0, &short);
 }
 
 // The same drawing over a two-way label, whose pairs (2,1), (2,3) and (4,3) are met in either direction; and with a mark on the class.
@@ -122,28 +129,42 @@ fn two_way() {
     let feed = [1u32, 1, 4, 32771, 1, 1, 2, 2, 3, 3, 4, 4, 2, 1, 2, 3, 4, 3];
     let d = row_of_three(ANY_OBJECT);
     show_check(b"two-way", &feed, d);
+    let mut work = [0u32; 200];
     let mut enough = [7u32; 17];
-    show_rows(b"its rows", &feed, d, &mut enough);
+    show_rows(b"its rows", &feed, d, &mut work, &mut enough);
     show(b"the slice", 0, 0, &enough);
     let mut short = [7u32; 15];
-    show_rows(b"in fifteen words", &feed, d, &mut short);
+    show_rows(b"in fifteen words", &feed, d, &mut work, &mut short);
     let marked = [1u32, 1, 32772, 0, 1, 1, 2, 2, 3, 3, 4, 4];
-    show_rows(b"a marked class", &marked, d, &mut enough);
+    show_rows(b"a marked class", &marked, d, &mut work, &mut enough);
 }
 
 // The same drawing with its middle fixed: to an object that has rows, to one that is not in the class, and past the word for any object.
 fn fixed() {
     let feed = [1u32, 1, 4, 3, 1, 1, 2, 2, 3, 3, 4, 4, 1, 2, 2, 3, 3, 4];
+    let mut work = [0u32; 200];
     let mut rows = [7u32; 3];
     show_check(b"fixed to 2", &feed, row_of_three(2));
-    show_rows(b"its rows", &feed, row_of_three(2), &mut rows);
+    show_rows(b"its rows", &feed, row_of_three(2), &mut work, &mut rows);
     show(b"the slice", 0, 0, &rows);
     let mut none = [7u32; 3];
     show_check(b"fixed to 65535", &feed, row_of_three(65535));
-    show_rows(b"its rows", &feed, row_of_three(65535), &mut none);
+    show_rows(
+        b"its rows",
+        &feed,
+        row_of_three(65535),
+        &mut work,
+        &mut none,
+    );
     show(b"the slice", 0, 0, &none);
     show_check(b"fixed to 65537", &feed, row_of_three(65537));
-    show_rows(b"its rows", &feed, row_of_three(65537), &mut none);
+    show_rows(
+        b"its rows",
+        &feed,
+        row_of_three(65537),
+        &mut work,
+        &mut none,
+    );
 }
 
 // Three nodes more.
@@ -186,8 +207,9 @@ fn waiting() {
     let unpicked = Drawing::empty().with_node(0, 0, ANY_OBJECT);
     show_line(b"no node picked", unpicked);
     show_check(b"its check", &feed, unpicked.drawing);
+    let mut work = [0u32; 200];
     let mut rows = [7u32; 2];
-    show_rows(b"its rows", &feed, unpicked.drawing, &mut rows);
+    show_rows(b"its rows", &feed, unpicked.drawing, &mut work, &mut rows);
 }
 
 fn main() {

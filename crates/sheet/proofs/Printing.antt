@@ -12,7 +12,6 @@ use Rattle.answers.specs.Verdict.{Verdict, accepted, refused, isAccepted}
 use Rattle.answers.specs.Answers.{verdictOf}
 use Rattle.answers.proofs.Verdict.{accepted-is, then-accepted}
 use Rattle.tables.specs.Lists.{_∈_}
-use Rattle.tables.specs.Order.{Table}
 use Rattle.tables.proofs.Members.{any-true, in-keep}
 use Rattle.tables.proofs.Tests.{true-not-false}
 use Rattle.feed.proofs.Feed.{class-sides}
@@ -43,10 +42,10 @@ use Rattle.sheet.proofs.Picks.{rows-back}
 
 -- ---- a query that accepts
 
-begun : (u v w : Verdict) (s : Lent) (code : List Instruction) (tables : List Table) (found : List (List ℕ)) → answer u v w s code tables found .verdict ≡ accepted → u ≡ accepted
+begun : (u v w : Verdict) (s : Lent) (code : List Instruction) (work : List ℕ) (found : List (List ℕ)) → answer u v w s code work found .verdict ≡ accepted → u ≡ accepted
 unfolding answer
-begun accepted v w s code tables found e = refl
-begun (refused n p) v w s code tables found e = cc
+begun accepted v w s code work found e = refl
+begun (refused n p) v w s code work found e = cc
 
 own-list : 3 * mostInstructions ≤ length (ownSlices .list)
 unfolding ownSlices

@@ -14,7 +14,6 @@ use Rattle.answers.specs.Verdict.{Verdict, accepted, refused, number, unless, _
 use Rattle.answers.specs.Answers.{verdictOf}
 use Rattle.answers.specs.declared.Answer.the-variants.{Accepted, TooMany}
 use Rattle.answers.proofs.Verdict.{accepted-is, refused-first}
-use Rattle.tables.specs.Order.{Table}
 use Rattle.tables.proofs.Tests.{true-not-false}
 use Rattle.drawing.specs.Drawing.{Pattern, drawingWords, checkDrawing}
 use Rattle.drawing.specs.Builder.{view}
@@ -77,11 +76,11 @@ refused-given (refused n p) text buffer h = refl
 -- ---- the checks in their order
 
 -- the query's own verdict begins with the drawing's check
-begins : (u v w : Verdict) (s : Lent) (code : List Instruction) (tables : List Table) (found : List (List ℕ)) (c : Verdict)
-    → u then answer (u then c) v w s code tables found .verdict ≡ answer (u then c) v w s code tables found .verdict
+begins : (u v w : Verdict) (s : Lent) (code : List Instruction) (work : List ℕ) (found : List (List ℕ)) (c : Verdict)
+    → u then answer (u then c) v w s code work found .verdict ≡ answer (u then c) v w s code work found .verdict
 unfolding answer _then_
-begins accepted v w s code tables found c = refl
-begins (refused n p) v w s code tables found c = refl
+begins accepted v w s code work found c = refl
+begins (refused n p) v w s code work found c = refl
 
 query-begins : (feed drawing : List ℕ) (s : Lent) → checkDrawing feed drawing then query feed drawing s .verdict ≡ query feed drawing s .verdict
 unfolding query

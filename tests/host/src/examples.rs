@@ -3,6 +3,7 @@
 use crate::cases;
 use crate::model::{self, Plan, Verdict, ACCEPTED};
 use crate::queries::ask;
+use crate::runs;
 use crate::search;
 use crate::Tally;
 
@@ -51,13 +52,19 @@ pub fn verdict(tally: &mut Tally, name: &str, feed: &[u32], drawing: &[u32], len
     tally.same(name, &answer.verdict, &expected, drawing);
 }
 
-/// The work slice after a query with exact slices, from this register on.
-fn registers(tally: &mut Tally, name: &str, feed: &[u32], drawing: &[u32], first: usize, expected: &[&[(u32, u32)]]) {
+/// The work slice after a query with exact slices: these registers, then zeros.
+fn standing(tally: &mut Tally, name: &str, feed: &[u32], drawing: &[u32], expected: &[&[(u32, u32)]]) {
     let plan = model::plan(feed, drawing, 600_000);
     let answer = ask(tally, feed, drawing, &plan, exact(&plan));
-    let before = plan.map_or(0, |p| p.run(answer.work.len()).1[..first].iter().map(|table| 2 * table.len()).sum());
-    let words: Vec<u32> = expected.iter().flat_map(|table| table.iter()).flat_map(|&(u, v)| [u, v]).collect();
-    tally.same(name, &answer.work[before..], &words[..], drawing);
+    let mut words: Vec<u32> = expected.concat().into_iter().flat_map(|(u, v)| [u, v]).collect();
+    words.resize(answer.work.len(), 0);
+    tally.same(name, &answer.work, &words, drawing);
+}
+
+/// The run of a translation cut after instruction i leaves just this register.
+fn register(tally: &mut Tally, name: &str, feed: &[u32], drawing: &[u32], i: usize, expected: &[(u32, u32)]) {
+    let list = model::translate(&model::read_drawing(drawing)).list;
+    runs::check(tally, &format!("{name}: register {i}"), feed, &list[..3 * (i + 1)], 99, ACCEPTED, expected);
 }
 
 /// Document 01's belt cases, starred or not.
@@ -82,25 +89,27 @@ fn tags(tally: &mut Tally) {
     let t = 5 * 65_536;
     let pair = drawing(&[(0, 1), (0, 1)], &[(0, 0, 1)]);
     let belt = feed(&[&[1, 2, 3]], &[&[(1, 2), (1, 3)]]);
-    let expected: [&[(u32, u32)]; 4] =
-        [&[(1, 2), (1, 3)], &[(t, 1), (t + 1, 1)], &[(t, 2), (t + 1, 3)], &[(t, t), (t + 1, t + 1)]];
-    registers(tally, "tags", &belt, &pair, 4, &expected);
+    register(tally, "tags", &belt, &pair, 4, &[(1, 2), (1, 3)]);
+    standing(tally, "tags", &belt, &pair, &[&[(t, 1), (t + 1, 1)], &[(t, 2), (t + 1, 3)], &[(t, t), (t + 1, t + 1)]]);
     // 001, Figure 6 (and 000, Figure 3), with a = 1, b = 2, c = 4, d = 3
     let printed = [(1, 2), (1, 4), (2, 4), (4, 3), (4, 4)];
+    let figure = feed(&[&[1, 2, 3, 4]], &[&printed]);
     let left: Vec<_> = printed.iter().zip(t..).map(|(p, tag)| (tag, p.0)).collect();
     let right: Vec<_> = printed.iter().zip(t..).map(|(p, tag)| (tag, p.1)).collect();
     let tau: Vec<_> = (t..t + 5).map(|tag| (tag, tag)).collect();
-    registers(tally, "001, Figure 6", &feed(&[&[1, 2, 3, 4]], &[&printed]), &pair, 4, &[&printed, &left, &right, &tau]);
+    register(tally, "001, Figure 6", &figure, &pair, 4, &printed);
+    standing(tally, "001, Figure 6", &figure, &pair, &[&left, &right, &tau]);
     // {(1,2),(1,3)} composed with {(2,9),(3,9)}: (1,9) once
     let composed = feed(&[&[1], &[2, 3], &[9]], &[&[(1, 2), (1, 3)], &[(2, 9), (3, 9)]]);
     let chain = drawing(&[(0, 1), (1, 0), (2, 1)], &[(0, 0, 1), (1, 1, 2)]);
+    register(tally, "composed once", &composed, &chain, 5, &[(1, 2), (1, 3)]);
+    (6..9).for_each(|i| register(tally, "composed once", &composed, &chain, i, &[(1, 9)]));
     let t = 9 * 65_536;
-    let expected: [&[(u32, u32)]; 7] = [&[(1, 2), (1, 3)], &[(1, 9)], &[(1, 9)], &[(1, 9)], &[(t, 1)], &[(t, 9)], &[(t, t)]];
-    registers(tally, "composed once", &composed, &chain, 5, &expected);
+    standing(tally, "composed once", &composed, &chain, &[&[(t, 1)], &[(t, 9)], &[(t, t)]]);
     rows(tally, "composed once", &composed, &chain, &[&[1, 9]]);
 }
 
-/// "The sheet above: 12 instructions, 33 pairs; 66 work words suffice, 65 give 10 at 11."
+/// "The sheet above: 12 instructions, 33 pairs; 66 work words suffice"; it "passes with 42 words and stops at instruction 5 with 41" (document 02, E5).
 fn sheet(tally: &mut Tally) {
     let feed = feed(&[&[1, 2, 3, 4]], &[&[(1, 2), (2, 3), (3, 4)]]);
     let drawing = drawing(&[(0, 1), (0, 0), (0, 1)], &[(0, 0, 1), (0, 1, 2)]);
@@ -110,11 +119,27 @@ fn sheet(tally: &mut Tally) {
     let steps = [3, 3, 1, 3, 5, 4, 3, 0, 6, 3, 7, 2, 7, 8, 0, 8, 8, 0, 9, 8, 0];
     let answer = ask(tally, &feed, &drawing, &plan, [36, 66, 4]);
     tally.same("the sheet's list", &answer.list, &[&loads[..], &steps[..]].concat(), &drawing);
-    tally.same("the sheet's work words", &plan.map_or(0, |p| p.work_words()), &66, &drawing);
-    verdict(tally, "the sheet with 66 work words", &feed, &drawing, [36, 66, 4], ACCEPTED);
-    verdict(tally, "the sheet with 65 work words", &feed, &drawing, [36, 65, 4], (10, 11));
-    verdict(tally, "the sheet with 3 row words", &feed, &drawing, [36, 66, 3], (12, 0));
-    verdict(tally, "the sheet with 35 list words", &feed, &drawing, [35, 66, 4], (13, 12));
+    let (work_words, all) = plan.as_ref().map_or((0, 0), |p| (p.work_words(), p.trace.tables.iter().map(|table| table.len()).sum()));
+    tally.same("the sheet's work words, and its pairs", &(work_words, all), &(42, 33), &drawing);
+    // the paths of the two picked nodes, registers 9 and 10, and the last node's register
+    let t = 9 * 65_536;
+    standing(tally, "the sheet", &feed, &drawing, &[&[(t, 1), (t + 1, 2)], &[(t, 3), (t + 1, 4)], &[(t, t), (t + 1, t + 1)]]);
+    // the loads: three times the class, twice the label
+    let (class, label) = ([1, 1, 2, 2, 3, 3, 4, 4], [1, 2, 2, 3, 3, 4]);
+    let stopped = ask(tally, &feed, &drawing, &plan, [36, 41, 4]);
+    let standing = [&class[..], &class, &class, &label, &label, &[0; 5]].concat();
+    tally.same("the sheet with 41 work words", &(stopped.verdict, stopped.work), &((10, 5), standing), &drawing);
+    for (lengths, expected) in [
+        ([36, 66, 4], ACCEPTED),
+        ([36, 65, 4], ACCEPTED),
+        ([36, 42, 4], ACCEPTED),
+        ([36, 40, 4], (10, 5)),
+        ([36, 42, 3], (12, 0)),
+        ([36, 41, 3], (10, 5)),
+        ([35, 41, 4], (13, 12)),
+    ] {
+        verdict(tally, &format!("the sheet with slices of {lengths:?} words"), &feed, &drawing, lengths, expected);
+    }
 }
 
 fn ceilings(tally: &mut Tally) {
@@ -122,10 +147,12 @@ fn ceilings(tally: &mut Tally) {
     let wide = feed(&[&objects[..256], &objects], &[]);
     let products = |a, b| drawing(&[(a, 1), (b, 1)], &[]);
     let plan = model::plan(&wide, &products(0, 0), 600_000);
-    let answer = ask(tally, &wide, &products(0, 0), &plan, [18, 2 * (512 + 4 * 65_536), 2 * 65_536]);
+    // at the last instruction the cross, its tags and its tau stand
+    let answer = ask(tally, &wide, &products(0, 0), &plan, [18, 8 * 65_536, 2 * 65_536]);
     tally.same("256 with 256", &(answer.verdict, answer.extent), &(ACCEPTED, 2 * 65_536), &[]);
     let all: Vec<u32> = (0..65_536).flat_map(|i| [i / 256, i % 256]).collect();
     tally.same("rows of 256 with 256", &(answer.rows == all), &true, &[]);
+    verdict(tally, "256 with 256, a word short", &wide, &products(0, 0), [18, 8 * 65_536 - 1, 2 * 65_536], (10, 5));
     verdict(tally, "256 with 257", &wide, &products(0, 1), [18, 2 * 400_000, 2 * 65_792], (11, 2));
     verdict(tally, "257 with 256", &wide, &products(1, 0), [18, 2 * 400_000, 2 * 65_792], (11, 2));
     // 11 comes before 10: there is room for the classes only

@@ -4,6 +4,7 @@
 use crate::manual_limits;
 use crate::manual_pages;
 use crate::manual_sheets;
+use crate::manual_slices;
 use crate::model::{self, Verdict, ACCEPTED};
 use crate::sheet_model;
 use crate::{said, Tally};
@@ -70,7 +71,7 @@ fn manual() -> &'static str {
 }
 
 /// The lines of the code block of this name.
-fn block(name: &str) -> Vec<&'static str> {
+pub fn block(name: &str) -> Vec<&'static str> {
     let fence = format!("```text {name}");
     let lines = manual().lines().skip_while(|line| *line != fence).skip(1);
     let lines: Vec<_> = lines.take_while(|line| *line != "```").collect();
@@ -83,12 +84,12 @@ pub fn text(name: &str) -> String {
     block(name).join("\n") + "\n"
 }
 
-fn numbers(text: &str) -> Vec<u32> {
+pub fn numbers(text: &str) -> Vec<u32> {
     text.split_whitespace().map(|word| word.parse().unwrap_or_else(|_| panic!("no number in docs/MANUAL.md: {word}"))).collect()
 }
 
 /// The words of a block whose lines are 'place: words # remark'. Each place is how often `step` words stand before the line.
-fn words(tally: &mut Tally, name: &str, step: usize) -> Vec<u32> {
+pub fn words(tally: &mut Tally, name: &str, step: usize) -> Vec<u32> {
     let mut words = Vec::new();
     for line in block(name) {
         let line = line.split('#').next().unwrap();
@@ -100,7 +101,7 @@ fn words(tally: &mut Tally, name: &str, step: usize) -> Vec<u32> {
 }
 
 /// The words of the line of a block that begins with this word.
-fn line_of(name: &str, first: &str) -> Vec<u32> {
+pub fn line_of(name: &str, first: &str) -> Vec<u32> {
     let line = block(name).into_iter().find_map(|line| line.strip_prefix(first));
     numbers(line.unwrap_or_else(|| panic!("docs/MANUAL.md: no {first} in {name}")))
 }
@@ -134,7 +135,7 @@ pub struct Case {
 }
 
 /// The sample, with ample slices.
-fn sample(tally: &mut Tally) -> Case {
+pub fn sample(tally: &mut Tally) -> Case {
     Case {
         feed: words(tally, "sample-feed", 1),
         drawing: words(tally, "sample-drawing", 1),
@@ -185,15 +186,6 @@ fn example(sample: &Case, text: &str) -> (&'static str, Case) {
 
 // ---- the worked examples
 
-/// A list over a feed leaves these words in a work slice of just their length, and every one of them is needed.
-fn runs(tally: &mut Tally, name: &str, feed: &[u32], list: &[u32], work: &[u32]) {
-    let mut case = Case { feed: feed.to_vec(), list: list.to_vec(), lengths: [0, work.len(), 0], ..Case::default() };
-    let left = ask("matcher_run", &case);
-    tally.same(name, &(left.verdict, left.work), &(ACCEPTED, work.to_vec()), list);
-    case.lengths[1] -= 1;
-    tally.same(&format!("{name}, a word short"), &ask("matcher_run", &case).verdict.0, &10, list);
-}
-
 /// A drawing has this list as its translation, and gives these rows.
 fn answers(tally: &mut Tally, name: &str, case: &Case, rows: &[u32]) {
     let lengths = [case.list.len(), 600, rows.len()];
@@ -206,14 +198,11 @@ fn answers(tally: &mut Tally, name: &str, case: &Case, rows: &[u32]) {
     tally.same(&format!("{name}: the list"), &left.list, &case.list, &case.drawing);
 }
 
-/// Sections 4 to 6: a feed, a drawing and its rows, a list and its registers.
+/// Sections 4 and 5: a feed, a drawing and its rows.
 fn small(tally: &mut Tally) {
     let (feed, drawing) = (words(tally, "small-feed", 1), words(tally, "small-drawing", 1));
-    let (list, work) = (words(tally, "small-list", 3), words(tally, "small-work", 1));
-    let translation = model::translate(&model::read_drawing(&drawing)).list;
-    let case = Case { feed, drawing, list: translation, ..Case::default() };
-    answers(tally, "the manual's small drawing", &case, &numbers(&text("small-rows")));
-    runs(tally, "the manual's small list", &case.feed, &list, &work);
+    let list = model::translate(&model::read_drawing(&drawing)).list;
+    answers(tally, "the manual's small drawing", &Case { feed, drawing, list, ..Case::default() }, &numbers(&text("small-rows")));
 }
 
 /// Section 4: a feed with a two-way label, and the rows of a drawing over it.
@@ -244,8 +233,8 @@ fn kinds(tally: &mut Tally) {
     let table = table("### The sixteen kinds");
     let list: Vec<u32> = table.iter().flat_map(|row| numbers(row[5].trim_matches('`'))).collect();
     let digits = |cell: &str| cell.replace(['`', '(', ')', ','], " ");
-    let work: Vec<u32> = table.iter().flat_map(|row| numbers(&digits(row[6]))).collect();
-    runs(tally, "the manual's kinds", &feed, &list, &work);
+    let printed: Vec<Vec<u32>> = table.iter().map(|row| numbers(&digits(row[6]))).collect();
+    manual_slices::registers(tally, "the manual's kinds", &feed, &list, &printed);
     tally.same("the manual's kinds: how many", &table.len(), &16, &[]);
     says(tally, "instruction i has its kind at 3i, a at 3i + 1 and b at 3i + 2.");
     for (i, row) in table.iter().enumerate() {
@@ -284,7 +273,6 @@ fn whole_sample(tally: &mut Tally) {
     tally.same("the sample's words", &read.ok(), &Some((case.feed.clone(), case.drawing.clone())), &[]);
     answers(tally, "the manual's sample", &case, &numbers(&text("sample-rows")));
     let work = words(tally, "sample-work", 1);
-    runs(tally, "the manual's sample", &case.feed, &case.list, &work);
     tally.same("the sample's listing", &listing(sheet.as_bytes()), &text("sample-listing"), &[]);
     says(tally, &format!("Its translation has {} instructions, {} words.", case.list.len() / 3, case.list.len()));
     says(tally, &format!("{} pairs in {} words.", work.len() / 2, work.len()));
@@ -370,9 +358,9 @@ fn leaves(tally: &mut Tally) {
 fn leaves_so(tally: &mut Tally, call: &str, row: &[&str], case: &Case, left: &Left) {
     let plan = || model::plan(&case.feed, &case.drawing, case.lengths[1]).unwrap_or_else(|_| panic!("{call}: refused, though {row:?}"));
     let list = || if call == "matcher_run" { case.list.clone() } else { plan().translation.list };
-    let work = || {
-        let (_, tables) = model::registers(&model::read_feed(&case.feed), &list(), case.lengths[1]);
-        tables.into_iter().flatten().flat_map(|(u, v)| [u, v]).collect()
+    let work = || match call {
+        "matcher_run" => model::run(&case.feed, &case.list, &vec![0; case.lengths[1]]).1,
+        _ => plan().run(case.lengths[1]).1,
     };
     let what = format!("{call} after {:?}", left.verdict);
     tally.same(&format!("{what}: list"), &(left.list == slice_of(row[2], list, case.lengths[0])), &true, &left.list);
@@ -390,6 +378,7 @@ pub fn examples(tally: &mut Tally) {
     kinds(tally);
     reductions(tally);
     whole_sample(tally);
+    manual_slices::all(tally);
     manual_sheets::all(tally);
     manual_pages::all(tally);
     refusals(tally);

@@ -79,11 +79,12 @@ fn bytes(n: usize) -> u32 {
     listed(whole)
 }
 
-/// Two classes of a and b objects crossed: a + b + 4ab pairs, so (4a + 1)(4b + 1) is four times as much and 1.
+/// A class, and eight loops over a label of 1,023 pairs, none of them (u,u): all these loads live where the last is made. Nothing is found.
 fn pairs(n: u32) -> u32 {
-    let product = 4 * n + 1;
-    let a = (1..n).find(|a| product % (4 * a + 1) == 0 && product / (4 * a + 1) % 4 == 1);
-    a.map_or(99, |a| listed(crossed(&[a, (product / (4 * a + 1) - 1) / 4], &[0, 1])))
+    let objects: String = (0..n.saturating_sub(8 * 1_023)).map(|u| format!("a {u}\n")).collect();
+    let label: String = (0..1_023).map(|u| format!("l {u} {}\n", u + 1)).collect();
+    let (nodes, edges) = ("node class pick fixed\nx a 1 -\n", "l x x\n".repeat(8));
+    listed(format!("class object\n{objects}\nlabel from to\n{label}\n{nodes}\nedge source target\n{edges}"))
 }
 
 /// Four picks, classes of 1, a, a and b objects: so many words of rows.

@@ -203,7 +203,7 @@ fn triples(r: &mut Random, plan: &Plan, most: usize) -> Vec<[usize; 3]> {
 /// Which slices are too short, two by two in the order of the answers.
 fn note_causes(met: &mut Met, plan: &Plan, [list, work, rows]: [usize; 3]) {
     let list = if list < plan.translation.list.len() { 13 } else { 0 };
-    let run = plan.run(work).0 .0;
+    let run = plan.trace.verdict(work).0;
     let rows = if rows < plan.rows.len() { 12 } else { 0 };
     met.causes.note(list, run);
     met.causes.note(list, rows);

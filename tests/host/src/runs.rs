@@ -3,9 +3,12 @@
 use crate::cases;
 use crate::checks::{twice_damaged, Causes};
 use crate::examples;
+use crate::living::{operands, padded, Trace};
 use crate::model;
 use crate::random::Random;
+use crate::reuse::all_registers;
 use crate::{said, Tally};
+use std::collections::BTreeSet;
 
 /// Words on both sides of the lent slice, which must stay as they are.
 const GUARD: usize = 3;
@@ -15,7 +18,7 @@ fn pattern(i: usize) -> u32 {
     0x5eed_0001_u32.wrapping_add((i as u32).wrapping_mul(0x9e37_79b1))
 }
 
-/// One call with a slice of so many words. `expected` gives the verdict and the words afterwards from the words before.
+/// One call with a slice of so many words. `expected` gives the verdict and the words afterwards from the words before. Gives the verdict that it found.
 pub fn compare(
     tally: &mut Tally,
     what: &str,
@@ -32,7 +35,14 @@ pub fn compare(
     tally.same(what, &found, &verdict, list);
     let other = lent.iter().zip(&wanted).position(|(x, y)| x != y).map(|at| (at as isize - GUARD as isize, lent[at], wanted[at]));
     tally.same(&format!("{what}, {words} words: place, found, expected"), &other, &None, list);
-    verdict
+    found
+}
+
+/// "the run of the bare list cut after it, on the same feed and slice, is accepted and leaves just that register in the slice" (document 02, E5).
+pub fn cut(tally: &mut Tally, what: &str, feed: &[u32], trace: &Trace, i: usize, words: usize) {
+    let register = || padded(&[&trace.tables[i]], words);
+    let verdict = compare(tally, &format!("{what}, cut"), feed, &trace.list[..3 * (i + 1)], words, |_| (model::ACCEPTED, register()));
+    tally.same(&format!("{what}, cut behind {i}"), &verdict, &model::ACCEPTED, &trace.list);
 }
 
 /// A call whose verdict and registers are known: the slice then holds these pairs, then zeros.
@@ -44,26 +54,31 @@ pub fn check(tally: &mut Tally, what: &str, feed: &[u32], list: &[u32], words: u
     });
 }
 
-/// How many words the registers take, up to the one that is over 65,536 pairs.
-fn need(tables: &[model::Table]) -> usize {
-    2 * tables.iter().map(|t| t.len()).filter(|&n| n <= 65_536).sum::<usize>()
+/// The registers of a list that passes its check; none where it does not.
+fn trace(feed: &[u32], list: &[u32]) -> Trace {
+    match model::check_list(feed, list) {
+        model::ACCEPTED => Trace::bare(&model::read_feed(feed), list),
+        _ => Trace::default(),
+    }
 }
 
-const LENGTHS: [&str; 8] = ["exact", "exact less one", "exact less two", "exact and one", "at a register", "short", "none", "long"];
+const LENGTHS: [&str; 9] =
+    ["exact", "exact less one", "exact less two", "exact and one", "at an instruction", "short", "none", "long", "for all registers"];
 
-/// A length of the work slice, of one of eight sorts, where so many words are needed.
-fn length(r: &mut Random, tables: &[model::Table], sort: usize) -> usize {
-    let exact = need(tables);
+/// A length of the work slice, of one of nine sorts: about what the run needs, and what all registers together take.
+fn length(r: &mut Random, trace: &Trace, sort: usize) -> usize {
+    let exact = trace.peak(usize::MAX);
     match sort {
         0 => exact,
         1 => exact.saturating_sub(1),
         2 => exact.saturating_sub(2),
         3 => exact + 1,
-        // what some registers take, or a word less or more
-        4 => (need(&tables[..r.below(tables.len() + 1)]) + r.below(3)).saturating_sub(1),
+        // what some instruction needs, or a word less or more
+        4 => (2 * trace.pairs.get(r.below(trace.pairs.len())).copied().unwrap_or(0) + r.below(3)).saturating_sub(1),
         5 => r.below(exact + 1),
         6 => 0,
-        _ => exact + 2 + r.below(60),
+        7 => exact + 2 + r.below(60),
+        _ => all_registers(trace),
     }
 }
 
@@ -74,38 +89,51 @@ pub const REASONS: [&str; 6] = ["unknown kind", "class absent", "label absent", 
 #[derive(Default)]
 struct Met {
     numbers: [usize; 18],
-    lengths: [usize; 8],
+    lengths: [usize; LENGTHS.len()],
     reasons: [usize; 6],
-    /// by kind: registers finished with some pairs, runs stopped there by 10 and by 11
-    finished: [usize; 16],
+    /// by kind: registers with some pairs that were seen in a slice, runs stopped there by 10 and by 11
+    seen: [usize; 16],
     full: [usize; 16],
     large: [usize; 16],
-    /// 11 where the register before it left no room for 65,537 pairs; 10 before an instruction that would be 11
+    /// 11 where there was no room for 65,537 pairs; 10 before an instruction that would be 11
     large_and_full: usize,
     full_then_large: usize,
 }
 
 impl Met {
-    /// A run of a list that passed its check.
-    fn note(&mut self, list: &[u32], tables: &[model::Table], words: usize) {
-        let (verdict, finished) = model::sized(tables, words);
-        for (w, table) in list.chunks(3).zip(&tables[..finished]) {
-            self.finished[w[0] as usize] += !table.is_empty() as usize;
+    /// A register that was compared.
+    fn see(&mut self, trace: &Trace, r: usize) {
+        self.seen[trace.list[3 * r] as usize] += !trace.tables[r].is_empty() as usize;
+    }
+
+    /// The same list cut behind some of the instructions that it gets past.
+    fn cuts(&mut self, tally: &mut Tally, r: &mut Random, what: &str, feed: &[u32], trace: &Trace, words: usize, times: usize) {
+        let finished = trace.finished(words);
+        for _ in 0..times.min(finished) {
+            let i = r.below(finished);
+            cut(tally, what, feed, trace, i, words);
+            self.see(trace, i);
         }
+    }
+
+    /// A run of a list that passed its check.
+    fn note(&mut self, list: &[u32], trace: &Trace, words: usize) {
+        let (verdict, finished) = (trace.verdict(words), trace.finished(words));
+        trace.living(finished).into_iter().for_each(|r| self.see(trace, r));
         let kind = list.get(3 * finished).map_or(0, |&kind| kind as usize);
         match verdict.0 {
             10 => self.full[kind] += 1,
             11 => self.large[kind] += 1,
             _ => {}
         }
-        let over = tables.last().map_or(false, |t| t.len() > 65_536);
-        self.large_and_full += (verdict.0 == 11 && words < need(tables) + 2 * 65_537) as usize;
+        let over = trace.tables.last().map_or(false, |t| t.len() > 65_536);
+        self.large_and_full += (verdict.0 == 11 && words / 2 < trace.pairs[finished]) as usize;
         self.full_then_large += (verdict.0 == 10 && over) as usize;
     }
 
     fn show(&self, tally: &mut Tally, what: &str, numbers: &[usize], large: &[usize]) {
         tally.met_of(&format!("{what} by number"), &self.numbers, numbers);
-        tally.met(&format!("{what}: registers with pairs, by kind"), &self.finished);
+        tally.met(&format!("{what}: registers with pairs, by kind"), &self.seen);
         tally.met(&format!("{what}: stopped by 10, by kind"), &self.full);
         tally.met_of(&format!("{what}: stopped by 11, by kind"), &self.large, large);
         println!("{what}: 11 without room {}, 10 before an 11 {}", self.large_and_full, self.full_then_large);
@@ -181,24 +209,23 @@ pub fn random(tally: &mut Tally, cases: usize) {
         }
         let list = perhaps_damaged(&mut r, i, &valid_feed, &valid_list, &mut list_causes);
         // the length follows what the list without its breach needs; a slice that is too short is the third cause
-        let tables = match model::check_list(&valid_feed, &valid_list) {
-            model::ACCEPTED => model::tables(&model::read_feed(&valid_feed), &valid_list),
-            _ => Vec::new(),
-        };
-        let sort = r.below(8);
-        let words = length(&mut r, &tables, sort);
+        let trace = trace(&valid_feed, &valid_list);
+        let sort = r.below(LENGTHS.len());
+        let words = length(&mut r, &trace, sort);
         let of_feed = model::check_feed(&feed).0;
         let of_list = model::check_list(&valid_feed, &list).0;
-        let of_size = model::sized(&tables, words).0 .0;
+        let of_size = trace.verdict(words).0;
         causes.note(of_feed, of_list);
         causes.note(of_feed, of_size);
         causes.note(of_list, of_size);
-        let verdict = compare(tally, "run", &feed, &list, words, |work| model::run(&feed, &list, work));
+        let untouched = feed == valid_feed && list == valid_list && of_list == 0;
+        let verdict = compare(tally, "run", &feed, &list, words, |work| if untouched { trace.end(words) } else { model::run(&feed, &list, work) });
         met.numbers[verdict.0 as usize] += 1;
         met.lengths[sort] += 1;
         reason(&list, verdict).into_iter().for_each(|k| met.reasons[k] += 1);
-        if feed == valid_feed && list == valid_list {
-            met.note(&list, &tables, words);
+        if untouched {
+            met.note(&list, &trace, words);
+            met.cuts(tally, &mut r, "run", &feed, &trace, words, (i % 8 == 0) as usize);
         }
     }
     met.show(tally, "random runs", &[0, 1, 2, 3, 4, 8, 9, 10, 11, 16, 17], &[10]);
@@ -213,23 +240,22 @@ pub fn random(tally: &mut Tally, cases: usize) {
 /// Lists of up to 1,024 instructions, and past them.
 pub fn long(tally: &mut Tally, cases: usize) {
     let mut r = Random::new(4);
-    let mut met = [0; 18];
+    let mut met = Met::default();
     for _ in 0..cases {
         let feed = cases::full_feed(&mut r);
         let mut list = cases::lively_list(&mut r, &feed, 1_100, 40);
         if r.one_in(4) {
             cases::damage(&mut r, &mut list);
         }
-        let tables = match model::check_list(&feed, &list) {
-            model::ACCEPTED => model::tables(&model::read_feed(&feed), &list),
-            _ => Vec::new(),
-        };
-        let sort = r.below(8);
-        let words = length(&mut r, &tables, sort);
+        let sort = r.below(LENGTHS.len());
+        let trace = trace(&feed, &list);
+        let words = length(&mut r, &trace, sort);
         let verdict = compare(tally, "long run", &feed, &list, words, |work| model::run(&feed, &list, work));
-        met[verdict.0 as usize] += 1;
+        met.numbers[verdict.0 as usize] += 1;
+        met.cuts(tally, &mut r, "long run", &feed, &trace, words, 4);
     }
-    tally.met_of("long runs by number", &met, &[0, 8, 9, 10, 16, 17]);
+    tally.met_of("long runs by number", &met.numbers, &[0, 8, 9, 10, 16, 17]);
+    tally.met("long runs cut: registers with pairs, by kind", &met.seen);
 }
 
 /// Operands of up to 65,536 pairs.
@@ -240,16 +266,14 @@ pub fn large(tally: &mut Tally, cases: usize) {
     for _ in 0..cases {
         let feed = cases::large_feed(&mut r);
         let list = cases::large_list(&mut r, &feed);
-        let tables = model::tables(&model::read_feed(&feed), &list);
-        largest = tables.iter().map(|t| t.len()).filter(|&n| n <= 65_536).fold(largest, usize::max);
-        for sort in [0, 1 + r.below(7)] {
-            let words = length(&mut r, &tables, sort);
-            let verdict = compare(tally, "large run", &feed, &list, words, |_| {
-                let (verdict, finished) = model::sized(&tables, words);
-                (verdict, model::work_after(&tables[..finished], words))
-            });
+        let trace = trace(&feed, &list);
+        largest = trace.tables.iter().map(|t| t.len()).filter(|&n| n <= 65_536).fold(largest, usize::max);
+        for sort in [0, 1 + r.below(LENGTHS.len() - 1)] {
+            let words = length(&mut r, &trace, sort);
+            let verdict = compare(tally, "large run", &feed, &list, words, |_| trace.end(words));
             met.numbers[verdict.0 as usize] += 1;
-            met.note(&list, &tables, words);
+            met.note(&list, &trace, words);
+            met.cuts(tally, &mut r, "large run", &feed, &trace, words, 3);
         }
     }
     // only these three give more pairs than either operand has
@@ -265,35 +289,26 @@ pub fn belt(tally: &mut Tally) {
     let two = table(&[(1, 2), (1, 3)]);
 
     let feed = cases::feed_of(&[], &[two.clone()]);
-    let tags = [(1, 2), (1, 3), (65_536, 1), (65_537, 1), (65_536, 2), (65_537, 3), (65_536, 65_536), (65_537, 65_537)];
-    check(tally, "tags of register 0", &feed, &[1, 0, 0, 7, 0, 0, 8, 0, 0, 9, 0, 0], 16, (0, 0), &tags);
+    let loaded = [(1, 2), (1, 3)];
+    for (kind, tags) in [(7, [(65_536, 1), (65_537, 1)]), (8, [(65_536, 2), (65_537, 3)]), (9, [(65_536, 65_536), (65_537, 65_537)])] {
+        check(tally, "tags of register 0", &feed, &[1, 0, 0, kind, 0, 0], 8, (0, 0), &tags);
+        check(tally, "tags of register 0, a word short", &feed, &[1, 0, 0, kind, 0, 0], 7, (10, 1), &loaded);
+    }
 
     let feed = cases::feed_of(&[], &[two, table(&[(2, 9), (3, 9)])]);
     let list = [1, 0, 0, 1, 1, 0, 3, 0, 1];
-    check(tally, "(1,9) once", &feed, &list, 10, (0, 0), &[(1, 2), (1, 3), (2, 9), (3, 9), (1, 9)]);
+    check(tally, "(1,9) once", &feed, &list, 10, (0, 0), &[(1, 9)]);
     check(tally, "(1,9) once, a word short", &feed, &list, 9, (10, 2), &[(1, 2), (1, 3), (2, 9), (3, 9)]);
 
     for (count, verdict) in [(256, (0, 0)), (257, (11, 2))] {
         let feed = cases::feed_of(&[cases::class(0, 256), cases::class(1_000, count)], &[]);
         let list = [0, 0, 0, 0, 1, 0, 10, 0, 1];
-        let mut pairs: Vec<(u32, u32)> = (0..256).map(|u| (u, u)).chain((1_000..1_000 + count).map(|v| (v, v))).collect();
-        if count == 256 {
-            pairs.extend((0..256).flat_map(|u| (1_000..1_256).map(move |v| (u, v))));
-        }
+        let classes = (0..256).map(|u| (u, u)).chain((1_000..1_000 + count).map(|v| (v, v)));
+        let cross = (0..256).flat_map(|u| (1_000..1_256).map(move |v| (u, v)));
+        let pairs: Vec<(u32, u32)> = if count == 256 { cross.collect() } else { classes.collect() };
         check(tally, &format!("256 objects crossed with {count}"), &feed, &list, 140_000, verdict, &pairs);
     }
-
-    // the sheet of document 01: its translation, and the registers of that
-    let feed = [1, 1, 4, 3, 1, 1, 2, 2, 3, 3, 4, 4, 1, 2, 2, 3, 3, 4];
-    let drawing = examples::drawing(&[(0, 1), (0, 0), (0, 1)], &[(0, 0, 1), (0, 1, 2)]);
-    let list = model::translate(&model::read_drawing(&drawing)).list;
-    tally.same("the sheet has 12 instructions", &(list.len() / 3), &12, &list);
-    let tables = model::tables(&model::read_feed(&feed), &list);
-    tally.same("the sheet has 33 pairs", &need(&tables), &66, &list);
-    for (words, verdict) in [(66, (0, 0)), (65, (10, 11))] {
-        let found = compare(tally, "the sheet", &feed, &list, words, |work| model::run(&feed, &list, work));
-        tally.same(&format!("the sheet with {words} words"), &found, &verdict, &list);
-    }
+    sheet(tally);
 
     for (object, verdict) in [(65_535, (0, 0)), (65_536, (3, 3))] {
         let feed = [1, 0, 1, object, object];
@@ -302,29 +317,44 @@ pub fn belt(tally: &mut Tally) {
     }
 }
 
-/// A list over a feed with slices about the room that it needs, and about the room before its last instruction.
-fn about(tally: &mut Tally, what: &str, feed: &[u32], list: &[u32], last: usize) {
-    let place = list.len() as u32 / 3 - 1;
-    let tables = model::tables(&model::read_feed(feed), list);
-    let (before, whole) = (need(&tables[..place as usize]), need(&tables[..place as usize]) + 2 * last);
-    // (words lent, verdict): 11 whatever is lent, as long as the registers before have room
-    let expected = if last > 65_536 {
-        vec![(before, (11, place)), (before + 1, (11, place)), (before + 2 * 65_536, (11, place)), (whole, (11, place)), (whole + 9, (11, place))]
-    } else {
-        vec![(before, (10, place)), (whole - 2, (10, place)), (whole - 1, (10, place)), (whole, (0, 0)), (whole + 9, (0, 0))]
-    };
-    for (words, verdict) in expected {
-        let found = compare(tally, what, feed, list, words, |_| {
-            let (verdict, finished) = model::sized(&tables, words);
-            (verdict, model::work_after(&tables[..finished], words))
-        });
-        tally.same(&format!("{what}, {words} words lent"), &found, &verdict, list);
+/// The list of document 01's sheet: "12 instructions, 33 pairs; 66 work words suffice"; it "passes with 42 words and stops at instruction 5 with 41".
+/// There the loads stand, 18 pairs.
+fn sheet(tally: &mut Tally) {
+    let feed = [1, 1, 4, 3, 1, 1, 2, 2, 3, 3, 4, 4, 1, 2, 2, 3, 3, 4];
+    let drawing = examples::drawing(&[(0, 1), (0, 0), (0, 1)], &[(0, 0, 1), (0, 1, 2)]);
+    let list = model::translate(&model::read_drawing(&drawing)).list;
+    tally.same("the sheet has 12 instructions", &(list.len() / 3), &12, &list);
+    let pairs: usize = model::tables(&model::read_feed(&feed), &list).iter().map(|table| table.len()).sum();
+    tally.same("the sheet has 33 pairs", &pairs, &33, &list);
+    for words in [42, 43, 65, 66, 67] {
+        check(tally, "the sheet", &feed, &list, words, (0, 0), &[(589_824, 589_824), (589_825, 589_825)]);
     }
-    let short = compare(tally, what, feed, list, before - 1, |_| {
-        let (verdict, finished) = model::sized(&tables, before - 1);
-        (verdict, model::work_after(&tables[..finished], before - 1))
-    });
-    tally.same(&format!("{what}, a word less than the registers before need"), &(short.0, short.1 < place), &(10, true), list);
+    let (class, label) = ([(1, 1), (2, 2), (3, 3), (4, 4)], [(1, 2), (2, 3), (3, 4)]);
+    let loads = [&class[..], &class, &class, &label, &label].concat();
+    tally.same("the sheet's loads", &loads.len(), &18, &list);
+    for (words, place, pairs) in [(41, 5, 18), (40, 5, 18), (36, 5, 18), (35, 4, 15), (30, 4, 15), (29, 3, 12), (23, 2, 8), (1, 0, 0), (0, 0, 0)] {
+        check(tally, "the sheet, stopped", &feed, &list, words, (10, place), &loads[..pairs]);
+    }
+}
+
+/// A list over a feed with slices about the room that it needs at its last instruction, and about the room that it needs before. At the last
+/// instruction of a bare list no register lives but its operands.
+fn about(tally: &mut Tally, what: &str, feed: &[u32], list: &[u32], last: usize) {
+    let place = list.len() / 3 - 1;
+    let trace = trace(feed, list);
+    let before = 2 * trace.pairs[..place].iter().max().unwrap();
+    let operands: BTreeSet<u32> = operands(&list[3 * place..]).iter().copied().collect();
+    let whole = 2 * (last + operands.iter().map(|&r| trace.tables[r as usize].len()).sum::<usize>());
+    let lent = if last > 65_536 { [before + 1, before + 2 * 65_536, whole] } else { [whole - 2, whole - 1, whole] };
+    for words in lent.into_iter().chain([before, whole + 9]).filter(|&words| words >= before) {
+        let found = compare(tally, what, feed, list, words, |_| trace.end(words));
+        // 11 whatever is lent, as long as the registers before have room
+        let number = if last > 65_536 { 11 } else { 10 * (words < whole) as u32 };
+        let expected = if number == 0 { model::ACCEPTED } else { (number, place as u32) };
+        tally.same(&format!("{what}, {words} words lent"), &found, &expected, list);
+    }
+    let short = compare(tally, what, feed, list, before - 1, |_| trace.end(before - 1));
+    tally.same(&format!("{what}, a word less than what is needed before"), &(short.0, (short.1 as usize) < place), &(10, true), list);
 }
 
 /// Appends the unions of the registers from `low` to `high`, halves first, and gives the register of the last.
@@ -387,9 +417,10 @@ pub fn edges(tally: &mut Tally) {
 
     // every middle value leads to every right value: 16,777,216 ways to 65,536 pairs
     let cross: Vec<(u32, u32)> = (0..256).flat_map(|u| (0..256).map(move |v| (u, v))).collect();
-    let pairs: Vec<(u32, u32)> = (0..256).map(|u| (u, u)).chain(cross.iter().copied()).chain(cross.iter().copied()).collect();
     let feed = cases::feed_of(&[cases::class(0, 256)], &[]);
-    check(tally, "256 × 256 composed with itself", &feed, &[0, 0, 0, 10, 0, 0, 3, 1, 1], 2 * pairs.len(), (0, 0), &pairs);
+    for (words, verdict) in [(4 * cross.len(), (0, 0)), (4 * cross.len() - 1, (10, 2))] {
+        check(tally, "256 × 256 composed with itself", &feed, &[0, 0, 0, 10, 0, 0, 3, 1, 1], words, verdict, &cross);
+    }
 
     // the last registers of a full list: the largest tags that there are
     let feed = cases::feed_of(&[cases::class(3, 256)], &[]);
@@ -407,8 +438,10 @@ pub fn edges(tally: &mut Tally) {
     for words in [0, 1, 2, 4, 5, 3071, 3073, 3074, 3075] {
         check_refused(tally, "length of the list", &feed, &list[..words], (8, 0));
     }
-    let pairs: Vec<(u32, u32)> = (0..1024).flat_map(|_| (3..259).map(|u| (u, u))).collect();
+    // nothing is used, so each gives up its pairs after its making
+    let pairs: Vec<(u32, u32)> = (3..259).map(|u| (u, u)).collect();
     check(tally, "1,024 instructions", &feed, &list[..3072], 2 * pairs.len(), (0, 0), &pairs);
+    check(tally, "1,024 instructions, a word short", &feed, &list[..3072], 2 * pairs.len() - 1, (10, 0), &[]);
 }
 
 /// A list that is refused before it is run, so that no word is written.

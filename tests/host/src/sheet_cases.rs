@@ -209,12 +209,14 @@ fn class(r: &mut Random, count: usize) -> BTreeSet<u32> {
     (low..low + count as u32).collect()
 }
 
-/// Two unconnected nodes with about this many pairs of objects.
+/// Two unconnected nodes with about this many pairs of objects. With one picked it is a third more where the slice decides: its tag alone stays.
 pub fn product(r: &mut Random, pairs: usize, from: usize) -> Plan {
+    let picked = r.below(2);
+    let pairs = if picked == 0 && pairs < 65_536 { pairs * 4 / 3 } else { pairs };
     let a = from + r.below(60);
     let b = (pairs / a + r.below(4)).saturating_sub(1);
     let classes = vec![class(r, a), class(r, b)];
-    let nodes = vec![free(0, 1), free(1, r.below(2) as u32)];
+    let nodes = vec![free(0, 1), free(1, picked as u32)];
     Plan { classes, nodes, ..Plan::default() }
 }
 

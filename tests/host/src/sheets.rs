@@ -5,6 +5,7 @@ use crate::dashes::{self, DASHES};
 use crate::model::{self, Verdict, ACCEPTED};
 use crate::queries;
 use crate::random::Random;
+use crate::reuse::all_registers;
 use crate::sheet_cases::{self, free, Plan, Sheet, CAUSES, DAMAGES, NEAR};
 use crate::sheet_model::{self, Answer, BREACHES, LENT, MOST_BYTES};
 use crate::stars::{self, STARS};
@@ -224,10 +225,10 @@ pub fn at_ceilings() -> Vec<Ceiling> {
         case("a million bytes", vec![b'a'; 1_000_000], (14, 0), 0),
         case("the most class lines", repeated(0, &["a", "1"]), (3, 5), 0),
         case("the most label lines", repeated(1, &["a", "1", "2"]), (3, 5), 0),
-        // two classes of a and b objects crossed: a + b + 4ab pairs
-        case("8,192 pairs", crossed(&[8, 248], &[0, 1]), ACCEPTED, 8 * 248),
-        case("8,193 pairs", crossed(&[3, 630], &[0, 1]), (10, 5), 0),
-        // each load of the label gives it twice
+        // two classes of a and b objects crossed: in the end the cross, its two tags and its tau live, 4ab pairs
+        case("8,192 pairs", crossed(&[8, 256], &[0, 1]), ACCEPTED, 8 * 256),
+        case("8,196 pairs", crossed(&[3, 683], &[0, 1]), (10, 5), 0),
+        // each load of the label gives it twice, and all live where the last is made
         case("8,192 pairs with a two-way label", looped(8, 1_023), ACCEPTED, 0),
         case("8,193 pairs with a two-way label", looped(9, 1_023), (10, 4), 0),
         case("a register of 65,536 pairs", crossed(&[256], &[0, 0]), (10, 2), 0),
@@ -246,6 +247,35 @@ pub fn ceilings(tally: &mut Tally) {
         query(tally, &sheet);
     }
     println!("sheets at ceilings: longest listing {} bytes", met.longest);
+    used_again(tally, &mut met, &mut r);
+}
+
+/// A chain of 12 nodes over so many objects in a ring, both ends picked.
+fn chain(objects: u32) -> Vec<u8> {
+    let plan = Plan {
+        classes: vec![(0..objects).collect()],
+        labels: vec![(0..objects).map(|u| (u, (u + 1) % objects)).collect()],
+        nodes: (0..12).map(|k| free(0, (k % 11 == 0) as u32)).collect(),
+        edges: (0..11).map(|k| [0, k, k + 1]).collect(),
+        ..Plan::default()
+    };
+    sheet_cases::written(&mut Random::new(26), &plan).bytes()
+}
+
+/// Sheets whose registers all together have more than 8,192 pairs, so that they were 10 before registers were given up; now they have rows.
+fn used_again(tally: &mut Tally, met: &mut Met, r: &mut Random) {
+    for (what, sheet, rows) in [
+        ("two classes crossed, 8,193 pairs", crossed(&[3, 630], &[0, 1]), 3 * 630),
+        ("three classes crossed", crossed(&[2, 3, 225], &[0, 1, 2]), 2 * 3 * 225),
+        ("a chain of 12 nodes", chain(300), 300),
+    ] {
+        let answer = compare(tally, met, r, what, &sheet);
+        tally.same(what, &(answer.verdict, answer.rows), &(ACCEPTED, rows), &[]);
+        query(tally, &sheet);
+        let words = sheet_model::read(&sheet).map(|sheet| model::plan(&sheet.feed(), &sheet.drawing(), LENT[1]));
+        let all = words.map_or(0, |plan| plan.map_or(0, |plan| all_registers(&plan.trace)));
+        tally.same(&format!("{what}: 10 before"), &(all > LENT[1]), &true, &[all as u32]);
+    }
 }
 
 // ---- the sample, damaged at every place
