@@ -1,6 +1,8 @@
 // Cases of the algebra: the belt cases of document 01 that concern it, each of the sixteen kinds, registers that are given up, and refusals. Each prints
 // a line: its name, number and place, then the words of the work slice.
 
+#![tactic(auto)]
+
 ghost use Rattle.std.specs.Prelude.{◌+◌, ◌≤◌, length};
 ghost use Rattle.limits.specs.Limits.{largest_object};
 

@@ -1,5 +1,7 @@
 // Answers: every outcome of a call, once. A new refusal is a line of the enum, a line of `verdict_of` and a line of `number_and_place`.
 
+#![tactic(auto)]
+
 ghost use Rattle.std.specs.Prelude.{◌≡◌, eqb};
 ghost use Rattle.answers.specs.Verdict.{number, is_accepted, Says, ◌then◌};
 ghost use Rattle.answers.specs.Answers.{verdict_of};
@@ -46,6 +48,7 @@ pub enum Answer {
 }
 
 // Whether the answer accepts.
+#[tactic(auto, unfolding(crate::specs::Verdict::is_accepted, crate::specs::Answers::verdict_of))]
 pub fn accepts(answer: Answer) -> bool
     ensures { result ≡ is_accepted (verdict_of answer) }
 {
@@ -56,6 +59,7 @@ pub fn accepts(answer: Answer) -> bool
 }
 
 // Whether the answer is 12, which zeroes what was lent for the rows.
+#[tactic(auto, unfolding(crate::specs::Verdict::number, crate::specs::Answers::verdict_of))]
 pub fn zeroes(answer: Answer) -> bool
     ensures { result ≡ eqb (number (verdict_of answer)) 12 }
 {
@@ -80,6 +84,7 @@ pub fn then(first: Answer, next: Answer) -> Answer
 pub struct Said(pub u32, pub u32);
 
 // The number and the place of an answer.
+#[tactic(auto, unfolding(crate::specs::Verdict::number, crate::specs::Verdict::location, crate::specs::Answers::verdict_of))]
 pub fn number_and_place(answer: Answer) -> Said
     ensures { Says (verdict_of answer) result.0 result.1 }
 {

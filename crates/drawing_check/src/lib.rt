@@ -1,5 +1,7 @@
 // The check of a drawing beside a feed: of one that was built line by line, and of words.
 
+#![tactic(auto)]
+
 ghost use Rattle.std.specs.Prelude.{◌≡◌, ◌+◌, ◌*◌, ◌≤◌, ◌<◌, length, drop};
 ghost use Rattle.limits.specs.Limits.{most_nodes, most_edges};
 ghost use Rattle.tables.specs.Lists.{any};

@@ -1,4 +1,6 @@
 // The feed: classes and labelled pairs of regions, as a camera writes them.
+#![tactic(auto)]
+
 ghost use Rattle.std.specs.Prelude.{◌≡◌, ◌&&◌, [], ◌+◌, ◌*◌, ◌<◌, ◌≤◌, leb, length, take, drop, get_or};
 ghost use Rattle.tables.specs.Order.{compare_pair, is_less};
 ghost use Rattle.tables.specs.Lists.{total};

@@ -1,5 +1,7 @@
 // Limits: every ceiling of document 01, the mark of a two-way label, the word for any object and the measures of a page, once for the code. `specs/Limits.antt` has them once for the definitions; `all_limits` shows that the two agree.
 
+#![tactic(auto)]
+
 ghost use Rattle.std.specs.Prelude.{◌≡◌};
 ghost use Rattle.limits.specs.Limits.{all_limits};
 
@@ -91,6 +93,7 @@ pub struct Limits {
 }
 
 // The limits of the code are those of the definitions.
+#[tactic(auto, unfolding(crate::specs::Limits::all_limits))]
 pub fn all_limits() -> Limits
     ensures { result ≡ all_limits }
 {

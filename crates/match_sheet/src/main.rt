@@ -1,6 +1,8 @@
 // The sheet program: reads a sheet from standard input and prints its listing, or its pages where the first argument is `--pages`. Where the input
 // cannot be read it prints nothing; that, or a text that could not be written whole, it says on standard error.
 
+#![tactic(auto)]
+
 ghost use Rattle.std.specs.Prelude.{length, take};
 ghost use Rattle.sheet.specs.SheetQuery.{sheet_listing};
 ghost use Rattle.sheet_pages.specs.SheetPages.{printed_pages};

@@ -1,5 +1,7 @@
 // The matcher's calls for C and Rust: a slice is a pointer, then a length.
 
+#![tactic(auto)]
+
 ghost use Rattle.std.specs.Prelude.{◌≡◌};
 ghost use Rattle.feed.specs.Feed.{check_feed};
 ghost use Rattle.drawing.specs.Drawing.{check_drawing};

@@ -1,6 +1,8 @@
 // Cases of the query. Drawings are built line by line, written out as words, checked and asked; the rows are printed from the part of the row
 // slice that the query hands back. Each case prints a line: its name, number and place, then words.
 
+#![tactic(auto)]
+
 use answers::say;
 use drawing::words::{EDGE_WORDS, HEAD_WORDS, NODE_WORDS};
 use drawing::{Built, Drawing};

@@ -1,5 +1,7 @@
 // The sheet query: a sheet's bytes in, a listing's bytes out.
 
+#![tactic(auto)]
+
 ghost use Rattle.std.specs.Prelude.{◌≡◌};
 ghost use Rattle.drawing.specs.Builder.{view};
 ghost use Rattle.query_answer.specs.Query.{pick_count};

@@ -1,6 +1,8 @@
 // Cases of the sheet, as files that the arguments name: the belt cases of document 01, every refusal that a sheet can give, and every
 // breach of its form. Prints each name, then the listing. At the end the first sheet again, with slices of several lengths.
 
+#![tactic(auto)]
+
 ghost use Rattle.io.specs.Counts.{IsPrefixLen};
 
 use matcher::matcher_sheet_query;

@@ -1,6 +1,8 @@
 // Pages of names and rows in a lent slice of bytes. As in `sheet_writer`, a function that writes takes the place where its text starts, and returns
 // the place after it.
 
+#![tactic(auto)]
+
 ghost use Rattle.std.specs.Prelude.{◌≡◌, ◌+◌, ◌*◌, ◌-◌, ◌≤◌, min, length, get_or, replicate};
 ghost use mathlib.Core.List.{[], ◌∷◌, ◌++◌, flat_map};
 ghost use Rattle.std.proofs.Math.Seq.{slice};

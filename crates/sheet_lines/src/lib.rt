@@ -1,5 +1,7 @@
 // The lines of a sheet: what one line adds to what has been read.
 
+#![tactic(auto)]
+
 ghost use Rattle.std.specs.Prelude.{◌≡◌, ◌&&◌, [], ◌+◌, ◌*◌, ◌≤◌, ◌<◌, eqb, length, get_or};
 ghost use Rattle.limits.specs.Limits.{most_classes, most_labels};
 ghost use Rattle.tables.specs.Order.{pair};

@@ -1,5 +1,7 @@
 // The listing of a query's rows, or of a refusal, in a lent slice of bytes.
 
+#![tactic(auto)]
+
 ghost use Rattle.std.specs.Prelude.{◌≡◌, ◌++◌, map, get_or, take};
 ghost use Rattle.std.proofs.Math.Seq.{slice};
 ghost use Rattle.answers.specs.Answers.{verdict_of};

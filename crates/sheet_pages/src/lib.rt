@@ -1,5 +1,7 @@
 // The sheet's rows as pages: a sheet's bytes in, the pages' bytes out.
 
+#![tactic(auto)]
+
 ghost use Rattle.std.specs.Prelude.{◌≡◌};
 ghost use Rattle.answers.specs.Verdict.{refused, ◌then◌};
 ghost use Rattle.answers.specs.Answers.{verdict_of};

@@ -1,5 +1,7 @@
 // The reader of a sheet: from bytes to the words of a feed and a drawing, or the line of the first breach.
 
+#![tactic(auto)]
+
 ghost use Rattle.std.specs.Prelude.{◌≡◌, map, ◌+◌, length};
 ghost use Rattle.tables.specs.Slices.{table_words, tables_words};
 ghost use Rattle.tables.specs.inner.Words.{Put};

@@ -1,5 +1,7 @@
 // Text in a byte slice: lines and fields, names and numbers, a number or a dash, names of labels.
 
+#![tactic(auto)]
+
 ghost use Rattle.std.specs.Prelude.{◌≡◌, true, ◌<◌};
 ghost use Rattle.limits.specs.Limits.{most_labels};
 ghost use Rattle.tables.specs.Lists.{all};

@@ -1,6 +1,8 @@
 // Text into a lent slice of bytes. A function that writes takes the place where its text starts, and returns the place after it. Bytes past the end
 // of the slice are left out, and from there on the place stays past the end. What a listing and a page both need stands here.
 
+#![tactic(auto)]
+
 ghost use Rattle.std.specs.Prelude.{◌≡◌, ◌+◌, ◌≤◌, min, [], ◌∷◌, length, replicate};
 ghost use Rattle.sheet_text.specs.Text.{digits};
 ghost use Rattle.sheet_text.specs.inner.Parts.{text_at, Inside};
