@@ -7,7 +7,7 @@ ghost use Rattle.answers.specs.Verdict.{number, is_accepted, Says, ◌then◌};
 ghost use Rattle.answers.specs.Answers.{verdict_of};
 
 // How a call ends: each refusal has its number in document 01 and the values that it gives there.
-#[derive(Drop)]
+#[derive(Clone, Copy)]
 pub enum Answer {
     // 0: accepted.
     Accepted,
@@ -80,7 +80,7 @@ pub fn then(first: Answer, next: Answer) -> Answer
 }
 
 // A number and a place.
-#[derive(Drop)]
+#[derive(Clone, Copy)]
 pub struct Said(pub u32, pub u32);
 
 // The number and the place of an answer.

@@ -17,7 +17,7 @@ use tables::Pair;
 const OBJECTS: u32 = OBJECT + 1;
 
 // What the check of the counts finds.
-#[derive(Drop)]
+#[derive(Clone, Copy)]
 enum Counts {
     // All pass; this is their sum.
     Sum(usize),
@@ -26,7 +26,7 @@ enum Counts {
 }
 
 // A table in the words of a feed: `count` pairs, two words each, from the word `start` on.
-#[derive(Drop)]
+#[derive(Clone, Copy)]
 pub struct Span {
     pub start: usize,
     pub count: usize,

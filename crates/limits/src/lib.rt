@@ -64,7 +64,7 @@ pub const LINE_WIDTH: usize = COLUMNS * COLUMN_WIDTH;
 pub const PAGE_ROWS: usize = 50;
 
 // All of them.
-#[derive(Drop)]
+#[derive(Clone, Copy)]
 pub struct Limits {
     pub classes: usize,
     pub labels: usize,

@@ -14,7 +14,7 @@ use sheet_listing::write_refusal;
 use sheet_pages::{LONGEST_PAGES, sheet_pages};
 use sheet_text::{Span, same_text};
 
-#[derive(Drop)]
+#[derive(Clone, Copy)]
 enum Input {
     // So many bytes were read.
     Read(usize),

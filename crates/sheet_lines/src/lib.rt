@@ -24,7 +24,7 @@ use sheet_text::{
 pub const LINE_WORDS: usize = 3 * (SHEET_BYTES / 4);
 
 // The classes, or the labels: their names by number, and how many lines they have. The lines stand in a lent slice, three words each.
-#[derive(Drop)]
+#[derive(Clone, Copy)]
 pub struct Tables {
     pub names: Names,
     pub lines: usize,
@@ -32,7 +32,7 @@ pub struct Tables {
 
 // What has been read: the section, from 0 to 3, and whether its name line has been read; the classes, the labels, the names of the
 // nodes, and the drawing.
-#[derive(Drop)]
+#[derive(Clone, Copy)]
 pub struct State {
     pub section: usize,
     pub opened: bool,
@@ -43,7 +43,7 @@ pub struct State {
 }
 
 // Whether a line could be read, and the state after it.
-#[derive(Drop)]
+#[derive(Clone, Copy)]
 pub struct Step {
     pub read: bool,
     pub state: State,

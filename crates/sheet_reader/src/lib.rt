@@ -23,14 +23,14 @@ use tables::words::{put_two, put_word};
 pub const FEED_WORDS: usize = 2 + TABLES + 2 * (LINE_WORDS / 3);
 
 // Whether all lines are as they should be, or the line of the first breach; and the state after those that could be read.
-#[derive(Drop)]
+#[derive(Clone, Copy)]
 pub struct Scan {
     pub answer: Answer,
     pub state: State,
 }
 
 // What a sheet gives: how many words its feed has, its node names, and its drawing.
-#[derive(Drop)]
+#[derive(Clone, Copy)]
 pub struct SheetRead {
     pub answer: Answer,
     pub feed: usize,

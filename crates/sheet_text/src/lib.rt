@@ -11,21 +11,21 @@ ghost use Rattle.sheet_text.specs.inner.Parts.{span, text_at, Inside, Cut, Front
 use limits::{ANY_OBJECT, DIGITS, LABELS, LETTERS};
 
 // A part of a slice: the place where it starts, and the place after its end.
-#[derive(Drop)]
+#[derive(Clone, Copy)]
 pub struct Span {
     pub start: usize,
     pub end: usize,
 }
 
 // Names by number: the first n are there.
-#[derive(Drop)]
+#[derive(Clone, Copy)]
 pub struct Names {
     pub spans: [Span; LABELS],
     pub n: usize,
 }
 
 // How many fields a line has, 5 where it has more than 4, and the first four; one that is missing is empty.
-#[derive(Drop)]
+#[derive(Clone, Copy)]
 pub struct Fields {
     pub count: usize,
     pub first: Span,
@@ -35,7 +35,7 @@ pub struct Fields {
 }
 
 // How many fields a part has, 3 where it has more than 2, the first two, and the rest behind them; what is missing is empty.
-#[derive(Drop)]
+#[derive(Clone, Copy)]
 struct Front {
     count: usize,
     first: Span,
