@@ -61,7 +61,7 @@ module _ (is_class : Bool) where
   pairs-ascend at [] h = none
   pairs-ascend at (p ∷ ps) h = ascends-after (at + 2) p ps (checked at [] p ps h).rest
 
-  pair-checked : (at : ℕ) (before : List Pair) {ps : Table} {p : Pair} → check_pairs is_class at before ps ≡ accepted → p ∈ ps →
+  pair-checked : {p : Pair} (at : ℕ) (before : List Pair) {ps : Table} → check_pairs is_class at before ps ≡ accepted → p ∈ ps →
       (p.left ≤ largest_object) × (p.right ≤ largest_object) × (is_class ≡ true → p.left ≡ p.right)
   pair-checked at before h (here {x = q} {xs = qs} e) =
       let c = checked at before q qs h in
@@ -69,7 +69,7 @@ module _ (is_class : Bool) where
   pair-checked at before h (there {x = q} {xs = qs} m) = pair-checked (at + 2) (q ∷ []) (checked at before q qs h).rest m
 
 -- counts that were checked
-count-checked : (at : ℕ) {ns : List ℕ} {n : ℕ} → check_counts at ns ≡ accepted → n ∈ ns → n ≤ most_table_pairs
+count-checked : {n : ℕ} (at : ℕ) {ns : List ℕ} → check_counts at ns ≡ accepted → n ∈ ns → n ≤ most_table_pairs
 unfolding check_counts
 count-checked at h (here e) = rw e (simp (then-accepted, unless-accepted, leb-is) at h).0
 count-checked at h (there m) = count-checked (at + 1) (simp then-accepted at h).1 m
@@ -124,6 +124,8 @@ get_or-cases ts k = step (dec_lt k (length ts))
     step (no n) = let h : length ts ≤ k = omega arith in inl (get_or-eq_default ts [] h)
 
 at_take : {A : Type 0} (n : ℕ) (xs : List A) {k : ℕ} {x : A} → At (take n xs) k x → (k < n) × At xs k x
+at_take Prim.Native.Nat.zero xs a = elim a [ ]
+at_take (suc n) [] a = elim a [ ]
 at_take (suc n) (x ∷ xs) (first e) = (omega arith, first e)
 at_take (suc n) (x ∷ xs) (later a) = let r = at_take n xs a in (omega (arith, r.0), later r.1)
 
