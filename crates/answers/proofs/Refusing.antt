@@ -1,7 +1,7 @@
 -- Refusing: an answer other than `Accepted` refuses.
 --
 -- In order: that it refuses; an answer and a check after it. Assumes nothing.
-use Rattle.std.proofs.Common.{◌≡◌, refl, ◌∙◌, sym, ap, true, false}
+use Rattle.std.proofs.Common.{◌≡◌, refl, ◌∙◌, sym, ap, false}
 use Rattle.answers.specs.Verdict.{Verdict, ◌then◌, is_accepted}
 use Rattle.answers.specs.Answers.{verdict_of}
 use Rattle.answers.specs.declared.Answer.{Answer}

@@ -83,6 +83,7 @@ columns-then-blank width m (f ∷ fs) =
 
 -- what holds of each field and of a blank one
 of-extended : (P : List ℕ → Type 0) (fields : List (List ℕ)) (m : ℕ) → P [] → ((f : List ℕ) → f ∈ fields → P f) → (f : List ℕ) → f ∈ (fields ++ replicate m []) → P f
+of-extended P [] zero blank each f i = elim i [ ]
 of-extended P [] (suc m) blank each f (here e) = rw e blank
 of-extended P [] (suc m) blank each f (there i) = of-extended P [] m blank each f i
 of-extended P (g ∷ gs) m blank each f (here e) = each f (here e)

@@ -1,5 +1,5 @@
 -- `drawing_check::check_edges` meets its contract. The loop's invariant: the check of the edges from i on is that of all. Assumes nothing.
-use Prim.Native.Nat.{◌+◌, ◌-◌}
+use Prim.Native.Nat.{◌+◌}
 use mathlib.Core.Path.{◌≡◌, ◌∙◌}
 use lib.ListN.{drop}
 use Rattle.answers.specs.Verdict.{◌then◌}

@@ -1,5 +1,4 @@
 -- `feed::all_ordered` meets its contract: the flag says of the pairs passed that they are as they must be. Assumes nothing.
-use Prim.Native.Nat.{◌-◌}
 use native.Mathlib.Omega.{arith}
 use Rattle.feed.proofs.Passing.{passing-first, passing-next}
 use Rattle.feed.proofs.all_ordered.Goals as goal

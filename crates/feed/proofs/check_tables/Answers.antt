@@ -1,7 +1,7 @@
 -- `feed::check_tables` meets its contract. The loop's invariant: the check from the table k on, which starts at `at`, is that of all tables, and the
 -- words from `at` on are those of these tables. Assumes nothing.
 use mathlib.Core.Path.{◌≡◌, ◌∙◌}
-use Prim.Native.Nat.{◌+◌, ◌*◌, ◌-◌, ◌≤◌}
+use Prim.Native.Nat.{◌+◌, ◌*◌, ◌≤◌}
 use native.Mathlib.Omega.{arith}
 use lib.ListN.{length}
 use Rattle.answers.specs.Verdict.{◌then◌}

@@ -1,7 +1,7 @@
 -- `feed::sum_counts` meets its contract. The loop's invariant: the check from the count k on, with the sum so far, is that of all counts.
 -- Assumes nothing.
 use mathlib.Core.Path.{◌∙◌, ap}
-use Prim.Native.Nat.{ℕ, ◌+◌, ◌-◌}
+use Prim.Native.Nat.{ℕ, ◌+◌}
 use native.Mathlib.Omega.{arith}
 use Rattle.feed.proofs.Checks.{counts_left, counts-over, counts-pass, counts_end}
 use Rattle.feed.proofs.sum_counts.Goals as goal

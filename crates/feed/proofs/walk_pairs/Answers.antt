@@ -1,7 +1,7 @@
 -- `feed::walk_pairs` meets its contract. The loop's invariant: the check from the pair j on is the check of the whole table. Assumes nothing.
 use mathlib.Core.Path.{◌≡◌, ◌∙◌}
 use mathlib.Core.List.{[]}
-use Prim.Native.Nat.{◌+◌, ◌-◌}
+use Prim.Native.Nat.{◌+◌}
 use native.Mathlib.Omega.{arith}
 use lib.ListN.{take, drop}
 use Rattle.answers.specs.Verdict.{◌then◌}

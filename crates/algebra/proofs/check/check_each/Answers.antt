@@ -1,7 +1,7 @@
 -- `algebra::check::check_each` meets its contract. The loop's invariant: the check of the instructions from here on answers as that of all.
 -- The measure is how many are left. Assumes nothing.
 use mathlib.Core.Path.{◌≡◌, ◌∙◌, sym, ap}
-use Prim.Native.Nat.{◌+◌, ◌-◌, ◌<◌, ◌≤◌}
+use Prim.Native.Nat.{◌+◌, ◌<◌, ◌≤◌}
 use native.Mathlib.Omega.{arith}
 use lib.ListN.{drop, length}
 use Rattle.answers.specs.Verdict.{Verdict, ◌then◌}

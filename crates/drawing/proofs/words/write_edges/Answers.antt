@@ -1,5 +1,4 @@
 -- `words::write_edges` meets its contract. The loop's invariant: the words of the edges from i on are left. Assumes nothing.
-use Prim.Native.Nat.{◌-◌}
 use lib.ListN.{get_or, take}
 use Rattle.tables.proofs.Putting.{putting-start, putting-same, putting-more, putting-room, putting-end}
 use Rattle.drawing.specs.Drawing.{no_edge, edge_width, edge_words}

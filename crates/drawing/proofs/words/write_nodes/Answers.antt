@@ -1,5 +1,4 @@
 -- `words::write_nodes` meets its contract. The loop's invariant: the words of the nodes from i on are left. Assumes nothing.
-use Prim.Native.Nat.{◌-◌}
 use lib.ListN.{get_or, take}
 use Rattle.tables.proofs.Putting.{putting-start, putting-same, putting-more, putting-room, putting-end}
 use Rattle.drawing.specs.Drawing.{no_node, node_width, node_words}

@@ -1,0 +1,15 @@
+-- `sheet_reader::put_counts` meets its contract. Assumes nothing.
+use mathlib.Core.List.{map}
+use Prim.Native.Nat.{◌-◌, ◌≤◌}
+use lib.ListN.{length}
+use Rattle.tables.proofs.Putting.{Putting}
+use Rattle.sheet_lines.specs.inner.State.{entries}
+use Rattle.sheet_reader.specs.inner.Answers.{tables_in}
+use Rattle.sheet_reader.proofs.Grouping.{tables_from}
+use Rattle.sheet_reader.proofs.put_counts.Given as goal
+
+abbrev pub invariant-loop-k : goal.invariant-loop-k
+invariant-loop-k l = (Putting l.initial.words l.words l.at l.out (map length (tables_in l.rows l.t)) (map length (tables_from (entries l.rows l.t.lines) l.t.names.n l.k))) × (l.k ≤ l.t.names.n)
+
+abbrev pub decreases-loop-k : goal.decreases-loop-k
+decreases-loop-k l = l.t.names.n - l.k
