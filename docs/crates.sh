@@ -5,7 +5,7 @@ cd "$(dirname "$0")"
 
 grep -v '^ *\(#\|$\)' ../crates.txt | awk -F': *' '
     # the crates of this repository in their order, and what each names
-    { name[++n] = $1; known[$1] = 1; text[$1] = $2 }
+    { sub(/ .*/, "", $1); name[++n] = $1; known[$1] = 1; text[$1] = $2 }
     END {
         for (i = 1; i <= n; i++) {
             c = name[i]; m = split(text[c], words, / +/); height[c] = 0

@@ -6,7 +6,7 @@ use std::path::{Path, PathBuf};
 use std::process::{exit, Command};
 
 const ARCHIVE: &str = "libmatcher.a";
-const HELP: &str = "To make libmatcher.a, run `rt staticlib matcher` in the repository of the region matcher: it writes target/staticlib/libmatcher.a.
+const HELP: &str = "To make libmatcher.a, run `tools/archive` in the repository of the region matcher: it writes target/staticlib/libmatcher.a.
 Elsewhere set MATCHER_LIB_DIR to the folder that holds it, or install it with `./install PREFIX` and let PKG_CONFIG_PATH name PREFIX/lib/pkgconfig.";
 
 /// The folder of the archive, or why there is none.

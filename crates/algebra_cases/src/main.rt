@@ -8,124 +8,130 @@ ghost use Rattle.limits.specs.Limits.{largest_object};
 
 use limits::PAIRS;
 use matcher::matcher_run;
+use std::io;
 
 // The words of classes of 256 and 257 objects, then of a register of the largest size.
 const CROSSED_WORDS: usize = 2 * (256 + 257 + PAIRS);
 
-// Prints some text, then a number.
-fn print(text: &[u8], n: u32) {
-    io::write_all(1, text);
-    io::print_decimal(1, n as u64);
-}
-
 // Prints the words from number `from` on.
-fn print_words(words: &[u32], from: usize) {
-    let mut i = from;
-    while i < words.len() {
-        print(b" ", words[i]);
-        i += 1;
+fn print_words(rt: &impl Print, words: &[u32], from: usize) -> io::Result<()> {
+    for word in words.iter().skip(from) {
+        print!(rt; " {word}")?;
     }
+    Ok(())
 }
 
 // Runs a list over a feed and prints the case's line, with the words from number `from` on.
-fn show(work: &mut [u32], name: &[u8], feed: &[u32], list: &[u32], from: usize) {
+fn show(
+    rt: &impl Print,
+    work: &mut [u32],
+    name: &str,
+    feed: &[u32],
+    list: &[u32],
+    from: usize,
+) -> io::Result<()> {
     let mut place = 0;
     let number = matcher_run(feed, list, work, &mut place);
-    io::write_all(1, name);
-    print(b": ", number);
-    print(b" ", place);
-    io::write_all(1, b":");
-    print_words(work, from);
-    io::write_all(1, b"\n");
+    print!(rt; "{name}: {number} {place}:")?;
+    print_words(rt, work, from)?;
+    println!(rt; "")
 }
 
 // Register 0 = {(1,2),(1,3)}: left tag, right tag and tau, each as the last register. The last word is past the last pair.
-fn tags() {
+fn tags(rt: &impl Print) -> io::Result<()> {
     let feed = [0u32, 1, 2, 1, 2, 1, 3];
     let mut work = [7u32; 9];
     let left = [1u32, 0, 0, 7, 0, 0];
-    show(&mut work, b"left tag", &feed, &left, 0);
+    show(rt, &mut work, "left tag", &feed, &left, 0)?;
     let right = [1u32, 0, 0, 8, 0, 0];
-    show(&mut work, b"right tag", &feed, &right, 0);
+    show(rt, &mut work, "right tag", &feed, &right, 0)?;
     let tau = [1u32, 0, 0, 9, 0, 0];
-    show(&mut work, b"tau", &feed, &tau, 0);
+    show(rt, &mut work, "tau", &feed, &tau, 0)
 }
 
 // {(1,2),(1,3)} composed with {(2,9),(3,9)}: (1,9) once. Ten words suffice.
-fn composed() {
+fn composed(rt: &impl Print) -> io::Result<()> {
     let feed = [0u32, 2, 2, 2, 1, 2, 1, 3, 2, 9, 3, 9];
     let list = [1u32, 0, 0, 1, 1, 0, 3, 0, 1];
     let mut enough = [7u32; 10];
-    show(&mut enough, b"composed", &feed, &list, 0);
+    show(rt, &mut enough, "composed", &feed, &list, 0)?;
     let mut short = [7u32; 9];
-    show(&mut short, b"composed, a word short", &feed, &list, 0);
+    show(rt, &mut short, "composed, a word short", &feed, &list, 0)
 }
 
 // Two-way labels, {(3,3),(5,4)} and {(1,2),(2,1)}: each pair in both directions, and once; then their union. Twenty words suffice.
-fn two_way() {
+fn two_way(rt: &impl Print) -> io::Result<()> {
     let feed = [0u32, 2, 32770, 32770, 3, 3, 5, 4, 1, 2, 2, 1];
     let list = [1u32, 0, 0, 1, 1, 0, 5, 0, 1];
     let mut enough = [7u32; 20];
-    show(&mut enough, b"two-way", &feed, &list, 0);
+    show(rt, &mut enough, "two-way", &feed, &list, 0)?;
     let mut short = [7u32; 19];
-    show(&mut short, b"two-way, a word short", &feed, &list, 0);
+    show(rt, &mut short, "two-way, a word short", &feed, &list, 0)
 }
 
 // The kinds that work on one table, over the label {(1,2),(2,2),(3,1)}.
-fn one_table() {
+fn one_table(rt: &impl Print) -> io::Result<()> {
     let feed = [0u32, 1, 3, 1, 2, 2, 2, 3, 1];
     let mut work = [7u32; 12];
     let inverse = [1u32, 0, 0, 2, 0, 0];
-    show(&mut work, b"inverse", &feed, &inverse, 0);
+    show(rt, &mut work, "inverse", &feed, &inverse, 0)?;
     let equal = [1u32, 0, 0, 11, 0, 0];
-    show(&mut work, b"equal sides", &feed, &equal, 0);
+    show(rt, &mut work, "equal sides", &feed, &equal, 0)?;
     let lefts = [1u32, 0, 0, 12, 0, 0];
-    show(&mut work, b"left values", &feed, &lefts, 0);
+    show(rt, &mut work, "left values", &feed, &lefts, 0)?;
     let rights = [1u32, 0, 0, 13, 0, 0];
-    show(&mut work, b"right values", &feed, &rights, 0);
+    show(rt, &mut work, "right values", &feed, &rights, 0)?;
     let with_left = [1u32, 0, 0, 14, 0, 3];
-    show(&mut work, b"with left 3", &feed, &with_left, 0);
+    show(rt, &mut work, "with left 3", &feed, &with_left, 0)?;
     let with_right = [1u32, 0, 0, 15, 0, 2];
-    show(&mut work, b"with right 2", &feed, &with_right, 0);
+    show(rt, &mut work, "with right 2", &feed, &with_right, 0)
 }
 
 // The kinds that work on two tables, over the class {1,2} and the label {(1,2),(2,2),(3,1)}.
-fn two_tables() {
+fn two_tables(rt: &impl Print) -> io::Result<()> {
     let feed = [1u32, 1, 2, 3, 1, 1, 2, 2, 1, 2, 2, 2, 3, 1];
     let mut work = [7u32; 22];
     let meet = [0u32, 0, 0, 1, 0, 0, 4, 0, 1];
-    show(&mut work, b"meet", &feed, &meet, 0);
+    show(rt, &mut work, "meet", &feed, &meet, 0)?;
     let union = [0u32, 0, 0, 1, 0, 0, 5, 0, 1];
-    show(&mut work, b"union", &feed, &union, 0);
+    show(rt, &mut work, "union", &feed, &union, 0)?;
     let difference = [0u32, 0, 0, 1, 0, 0, 6, 1, 0];
-    show(&mut work, b"difference", &feed, &difference, 0);
+    show(rt, &mut work, "difference", &feed, &difference, 0)?;
     let composition = [0u32, 0, 0, 1, 0, 0, 3, 1, 1];
-    show(&mut work, b"composition", &feed, &composition, 0);
+    show(rt, &mut work, "composition", &feed, &composition, 0)?;
     let cross = [0u32, 0, 0, 1, 0, 0, 10, 1, 0];
-    show(&mut work, b"cross", &feed, &cross, 0);
+    show(rt, &mut work, "cross", &feed, &cross, 0)
 }
 
 // The class, the label, and its inverse or the pairs with left 0: the 0 is no use of register 0, which is done with after its making. Twelve words suffice
 // for the first, six for the second; with one less the label stands.
-fn given_up() {
+fn given_up(rt: &impl Print) -> io::Result<()> {
     let feed = [1u32, 1, 2, 3, 1, 1, 2, 2, 1, 2, 2, 2, 3, 1];
     let unused = [0u32, 0, 0, 1, 0, 0, 2, 1, 0];
     let mut enough = [7u32; 12];
-    show(&mut enough, b"an unused 0", &feed, &unused, 0);
+    show(rt, &mut enough, "an unused 0", &feed, &unused, 0)?;
     let mut short = [7u32; 11];
-    show(&mut short, b"an unused 0, a word short", &feed, &unused, 0);
+    show(
+        rt,
+        &mut short,
+        "an unused 0, a word short",
+        &feed,
+        &unused,
+        0,
+    )?;
     let value = [0u32, 0, 0, 1, 0, 0, 14, 1, 0];
     let mut six = [7u32; 6];
-    show(&mut six, b"a value of 0", &feed, &value, 0);
+    show(rt, &mut six, "a value of 0", &feed, &value, 0)?;
     let twice = [1u32, 0, 0, 5, 0, 0];
-    show(&mut enough, b"an operand named twice", &feed, &twice, 0);
+    show(rt, &mut enough, "an operand named twice", &feed, &twice, 0)?;
     show(
+        rt,
         &mut short,
-        b"an operand named twice, a word short",
+        "an operand named twice, a word short",
         &feed,
         &twice,
         0,
-    );
+    )
 }
 
 // Word i of a feed of two classes: the objects from 0 to 255, and so many from 256 on.
@@ -155,18 +161,25 @@ fn fill(feed: &mut [u32], second: u32)
 
 // Two classes of 256 objects crossed are accepted, 256 with 257 are not. Prints the last words of the slice: the classes are given up, and behind the
 // cross are zeros. Where all three are used later, and there is no room for the next cross, all three stand.
-fn crossed() {
+fn crossed(rt: &impl Print) -> io::Result<()> {
     let list = [0u32, 0, 0, 0, 1, 0, 10, 0, 1];
     let again = [0u32, 0, 0, 0, 1, 0, 10, 0, 1, 10, 2, 0, 4, 3, 1];
     let mut work = [7u32; CROSSED_WORDS];
     let last = CROSSED_WORDS - 6;
     let mut accepted = [0u32; 1028];
     fill(&mut accepted, 256);
-    show(&mut work, b"256 crossed with 256", &accepted, &list, last);
-    show(&mut work, b"and once more", &accepted, &again, last);
+    show(
+        rt,
+        &mut work,
+        "256 crossed with 256",
+        &accepted,
+        &list,
+        last,
+    )?;
+    show(rt, &mut work, "and once more", &accepted, &again, last)?;
     let mut refused = [0u32; 1030];
     fill(&mut refused, 257);
-    show(&mut work, b"256 crossed with 257", &refused, &list, last);
+    show(rt, &mut work, "256 crossed with 257", &refused, &list, last)
 }
 
 // Copies some words to the words from number `at` on.
@@ -182,7 +195,7 @@ fn copy(to: &mut [u32], at: usize, from: &[u32])
 
 // The list of document 01's sheet, its loads and the steps C and D: 33 pairs in all, so 66 words suffice; so do 42, and with 41 there is no room at
 // instruction 5. Cut behind instruction 6, in 42 words, it leaves that register.
-fn sheet() {
+fn sheet(rt: &impl Print) -> io::Result<()> {
     let feed = [1u32, 1, 4, 3, 1, 1, 2, 2, 3, 3, 4, 4, 1, 2, 2, 3, 3, 4];
     let loads = [0u32, 0, 0, 0, 0, 0, 0, 0, 0, 1, 0, 0, 1, 0, 0];
     let chain = [3u32, 3, 1, 3, 5, 4];
@@ -192,19 +205,19 @@ fn sheet() {
     copy(&mut list, 15, &chain);
     copy(&mut list, 21, &join);
     let mut all = [7u32; 66];
-    show(&mut all, b"sheet, room for all", &feed, &list, 0);
+    show(rt, &mut all, "sheet, room for all", &feed, &list, 0)?;
     let mut enough = [7u32; 42];
-    show(&mut enough, b"sheet", &feed, &list, 0);
+    show(rt, &mut enough, "sheet", &feed, &list, 0)?;
     let mut short = [7u32; 41];
-    show(&mut short, b"sheet, a word short", &feed, &list, 0);
+    show(rt, &mut short, "sheet, a word short", &feed, &list, 0)?;
     let mut cut = [0u32; 21];
     copy(&mut cut, 0, &loads);
     copy(&mut cut, 15, &chain);
-    show(&mut enough, b"sheet, cut", &feed, &cut, 0);
+    show(rt, &mut enough, "sheet, cut", &feed, &cut, 0)
 }
 
 // Refused before the run: nothing is written.
-fn refused() {
+fn refused(rt: &impl Print) -> io::Result<()> {
     let feed = [1u32, 0, 2, 5, 5, 9, 9];
     let double = [1u32, 0, 2, 5, 5, 5, 5];
     let marked = [1u32, 0, 32769, 5, 5];
@@ -214,23 +227,44 @@ fn refused() {
     let later = [0u32, 0, 0, 3, 0, 1];
     let unused = [0u32, 0, 0, 2, 0, 7];
     let mut work = [7u32; 4];
-    show(&mut work, b"a pair twice in the feed", &double, &partial, 0);
-    show(&mut work, b"a mark on a class", &marked, &partial, 0);
-    show(&mut work, b"a part of an instruction", &feed, &partial, 0);
-    show(&mut work, b"an unknown kind", &feed, &unknown, 0);
-    show(&mut work, b"an absent class", &feed, &absent, 0);
-    show(&mut work, b"a second operand not earlier", &feed, &later, 0);
-    show(&mut work, b"an unused word not 0", &feed, &unused, 0);
+    show(
+        rt,
+        &mut work,
+        "a pair twice in the feed",
+        &double,
+        &partial,
+        0,
+    )?;
+    show(rt, &mut work, "a mark on a class", &marked, &partial, 0)?;
+    show(
+        rt,
+        &mut work,
+        "a part of an instruction",
+        &feed,
+        &partial,
+        0,
+    )?;
+    show(rt, &mut work, "an unknown kind", &feed, &unknown, 0)?;
+    show(rt, &mut work, "an absent class", &feed, &absent, 0)?;
+    show(
+        rt,
+        &mut work,
+        "a second operand not earlier",
+        &feed,
+        &later,
+        0,
+    )?;
+    show(rt, &mut work, "an unused word not 0", &feed, &unused, 0)
 }
 
-fn main() {
-    tags();
-    composed();
-    two_way();
-    one_table();
-    two_tables();
-    given_up();
-    crossed();
-    sheet();
-    refused();
+fn main(rt: HostRuntime) -> io::Result<()> {
+    tags(&rt)?;
+    composed(&rt)?;
+    two_way(&rt)?;
+    one_table(&rt)?;
+    two_tables(&rt)?;
+    given_up(&rt)?;
+    crossed(&rt)?;
+    sheet(&rt)?;
+    refused(&rt)
 }

@@ -13,6 +13,9 @@ use sheet::{DECIDING_BYTES, sheet_query};
 use sheet_listing::write_refusal;
 use sheet_pages::{LONGEST_PAGES, sheet_pages};
 use sheet_text::{Span, same_text};
+use std::env::Env;
+use std::io;
+use std::io::{Read, Write};
 
 #[derive(Clone, Copy)]
 enum Input {
@@ -22,17 +25,16 @@ enum Input {
     Failed,
 }
 
-// Reads standard input until it ends or the slice is full.
-fn read_input(to: &mut [u8]) -> Input
+// Reads until the input ends or the slice is full.
+fn read_input(from: &mut impl Read, to: &mut [u8]) -> Input
     ensures { Within (length to.new) result }
 {
     let mut n = 0;
     while n < to.len() {
-        let got = libc::read(0, &mut to[n..]);
-        if got < 0 {
-            return Input::Failed;
-        }
-        let more = io::count(got, &to[n..]);
+        let more = match from.read(&mut to[n..]) {
+            Ok(more) => more,
+            Err(_) => return Input::Failed,
+        };
         if more == 0 {
             return Input::Read(n);
         }
@@ -63,6 +65,7 @@ fn page(out: &mut [u8], input: &[u8], n: usize) -> usize
 }
 
 // The one or the other.
+#[tactic(auto, unfolding(crate::specs::Program::printed))]
 fn text(out: &mut [u8], input: &[u8], n: usize, pages: bool) -> usize
     requires { Room out.old input.now n }
     ensures { Prints (printed pages) (length input.now) (take n input.now) out.new result }
@@ -74,31 +77,31 @@ fn text(out: &mut [u8], input: &[u8], n: usize, pages: bool) -> usize
 }
 
 // Whether the first argument asks for pages.
-fn wants_pages() -> bool {
+fn wants_pages(rt: &impl Env) -> bool {
     let option = b"--pages";
     let mut first = [0u8; 7];
-    let n = os::arg(1, &mut first);
-    same_text(
-        &first,
-        Span { start: 0, end: n },
-        option,
-        Span { start: 0, end: 7 },
-    )
+    match rt.arg(1, &mut first) {
+        Ok(n) => same_text(
+            &first,
+            Span { start: 0, end: n },
+            option,
+            Span { start: 0, end: 7 },
+        ),
+        Err(_) => false,
+    }
 }
 
-fn main() {
+fn main(rt: HostRuntime) -> io::Result<()> {
     let mut input = [0u8; DECIDING_BYTES];
-    match read_input(&mut input) {
-        Input::Failed => {
-            io::write_all(2, b"match_sheet: cannot read standard input\n");
-        }
+    match read_input(&mut rt.stdin(), &mut input) {
+        Input::Failed => eprintln!(rt; "match_sheet: cannot read standard input"),
         Input::Read(n) => {
             let mut out = [0u8; LONGEST_PAGES];
-            let m = text(&mut out, &input, n, wants_pages());
-            if io::write_all(1, &out[0..m]) {
-                return;
+            let m = text(&mut out, &input, n, wants_pages(&rt));
+            match rt.stdout().write_all(&out[0..m]) {
+                Ok(()) => Ok(()),
+                Err(_) => eprintln!(rt; "match_sheet: cannot write standard output"),
             }
-            io::write_all(2, b"match_sheet: cannot write standard output\n");
         }
     }
 }

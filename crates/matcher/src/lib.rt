@@ -1,4 +1,4 @@
-// The matcher's calls for C and Rust: a slice is a pointer, then a length.
+// The matcher's calls. The crate matcher_c offers them to C and Rust.
 
 #![tactic(auto)]
 
@@ -18,24 +18,21 @@ ghost use Rattle.matcher.specs.Calls.{Translates, Answers, GivesPages};
 use answers::say;
 
 // Checks a feed: 1 to 4.
-#[unsafe(no_mangle)]
-pub extern "C" fn matcher_check_feed(feed: &[u32], place: &mut u32) -> u32
+pub fn matcher_check_feed(feed: &[u32], place: &mut u32) -> u32
     ensures { Says (check_feed feed.now) result place.new }
 {
     say(feed::check_feed(feed), place)
 }
 
 // Checks a feed, then a drawing: 1 to 7.
-#[unsafe(no_mangle)]
-pub extern "C" fn matcher_check_drawing(feed: &[u32], drawing: &[u32], place: &mut u32) -> u32
+pub fn matcher_check_drawing(feed: &[u32], drawing: &[u32], place: &mut u32) -> u32
     ensures { Says (check_drawing feed.now drawing.now) result place.new }
 {
     say(drawing_check::check_drawing(feed, drawing), place)
 }
 
 // Checks a feed and an instruction list, then runs the list: 1 to 4 and 8 to 11.
-#[unsafe(no_mangle)]
-pub extern "C" fn matcher_run(feed: &[u32], list: &[u32], work: &mut [u32], place: &mut u32) -> u32
+pub fn matcher_run(feed: &[u32], list: &[u32], work: &mut [u32], place: &mut u32) -> u32
     ensures fact_1 { Says (run feed.now list.now work.old).verdict result place.new }
     ensures fact_2 { work.new ≡ (run feed.now list.now work.old).work }
 {
@@ -43,8 +40,7 @@ pub extern "C" fn matcher_run(feed: &[u32], list: &[u32], work: &mut [u32], plac
 }
 
 // Checks a feed and a drawing, then translates the drawing: 1 to 7 and 13.
-#[unsafe(no_mangle)]
-pub extern "C" fn matcher_translate(
+pub fn matcher_translate(
     feed: &[u32],
     drawing: &[u32],
     list: &mut [u32],
@@ -60,8 +56,7 @@ pub extern "C" fn matcher_translate(
 }
 
 // Checks a feed and a drawing, translates the drawing, runs the translation and gives the rows: 1 to 7 and 10 to 13.
-#[unsafe(no_mangle)]
-pub extern "C" fn matcher_query(
+pub fn matcher_query(
     feed: &[u32],
     drawing: &[u32],
     list: &mut [u32],
@@ -80,16 +75,14 @@ pub extern "C" fn matcher_query(
 }
 
 // The listing of a sheet: its length, 0 where it does not fit.
-#[unsafe(no_mangle)]
-pub extern "C" fn matcher_sheet_query(sheet: &[u8], listing: &mut [u8]) -> usize
+pub fn matcher_sheet_query(sheet: &[u8], listing: &mut [u8]) -> usize
     ensures { listed result listing.new ≡ sheet_query sheet.now listing.old }
 {
     sheet::sheet_query(sheet, listing)
 }
 
 // The pages of a sheet's rows: 3, 5 to 7, 10 to 12, 14 and 15.
-#[unsafe(no_mangle)]
-pub extern "C" fn matcher_sheet_pages(
+pub fn matcher_sheet_pages(
     sheet: &[u8],
     pages: &mut [u8],
     place: &mut u32,

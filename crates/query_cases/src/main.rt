@@ -9,69 +9,62 @@ use drawing::{Built, Drawing};
 use drawing_check::check_drawing;
 use limits::{ANY_OBJECT, EDGES, LIST_WORDS, NODES};
 use query::query;
+use std::io;
 
 // The words of the largest drawing.
 const DRAWING_WORDS: usize = HEAD_WORDS + NODE_WORDS * NODES + EDGE_WORDS * EDGES;
 
-// Prints a text, then a number.
-fn print(text: &[u8], n: u32) {
-    io::write_all(1, text);
-    io::print_decimal(1, n as u64);
-}
-
 // Prints some words.
-fn print_words(words: &[u32]) {
-    let mut i = 0;
-    while i < words.len() {
-        print(b" ", words[i]);
-        i += 1;
+fn print_words(rt: &impl Print, words: &[u32]) -> io::Result<()> {
+    for word in words {
+        print!(rt; " {word}")?;
     }
+    Ok(())
 }
 
 // Prints a case's name, number and place, then some words.
-fn show(name: &[u8], number: u32, place: u32, words: &[u32]) {
-    io::write_all(1, name);
-    print(b": ", number);
-    print(b" ", place);
-    io::write_all(1, b":");
-    print_words(words);
-    io::write_all(1, b"\n");
+fn show(rt: &impl Print, name: &str, number: u32, place: u32, words: &[u32]) -> io::Result<()> {
+    print!(rt; "{name}: {number} {place}:")?;
+    print_words(rt, words)?;
+    println!(rt; "")
 }
 
 // A line's answer, and how many nodes and edges the drawing has after it.
-fn show_line(name: &[u8], built: Built) {
+fn show_line(rt: &impl Print, name: &str, built: Built) -> io::Result<()> {
     let answer = built.answer;
     let d = built.drawing;
     let mut place = 0;
     let number = say(answer, &mut place);
-    io::write_all(1, name);
-    print(b": ", number);
-    print(b" ", place);
-    io::write_all(1, b": nodes ");
-    io::print_decimal(1, d.node_count() as u64);
-    io::write_all(1, b", edges ");
-    io::print_decimal(1, d.edge_count() as u64);
-    io::write_all(1, b"\n");
+    let nodes = d.node_count();
+    let edges = d.edge_count();
+    println!(rt; "{name}: {number} {place}: nodes {nodes}, edges {edges}")
 }
 
 // The words of a drawing, and what its check says of them.
-fn show_check(name: &[u8], feed: &[u32], d: Drawing) {
+fn show_check(rt: &impl Print, name: &str, feed: &[u32], d: Drawing) -> io::Result<()> {
     let mut words = [0u32; DRAWING_WORDS];
     let n = d.write(&mut words);
     if words.len() < n {
-        return;
+        return Ok(());
     }
     let mut place = 0;
     let number = say(check_drawing(feed, &words[0..n]), &mut place);
-    show(name, number, place, &words[0..n]);
+    show(rt, name, number, place, &words[0..n])
 }
 
 // The rows of a drawing, in the part that the query hands back of a slice of so many words; with so many work words.
-fn show_rows(name: &[u8], feed: &[u32], d: Drawing, work: &mut [u32], rows: &mut [u32]) {
+fn show_rows(
+    rt: &impl Print,
+    name: &str,
+    feed: &[u32],
+    d: Drawing,
+    work: &mut [u32],
+    rows: &mut [u32],
+) -> io::Result<()> {
     let mut words = [0u32; DRAWING_WORDS];
     let n = d.write(&mut words);
     if words.len() < n {
-        return;
+        return Ok(());
     }
     let mut list = [0u32; LIST_WORDS];
     let mut number = 0;
@@ -85,7 +78,7 @@ fn show_rows(name: &[u8], feed: &[u32], d: Drawing, work: &mut [u32], rows: &mut
         &mut number,
         &mut place,
     );
-    show(name, number, place, part);
+    show(rt, name, number, place, part)
 }
 
 // Three nodes of class 0 in a row, the two outer ones picked, as in document 01's sheet; the one between them is this object.
@@ -99,68 +92,70 @@ fn row_of_three(middle: u32) -> Drawing {
 
 // Document 01's sheet: its words, its rows, and no part of a slice that is too short. Of 42 work words the paths and the last node's register stay; with
 // 41 there is no room at instruction 5, before which the loads stand.
-fn sheet() {
+fn sheet(rt: &impl Print) -> io::Result<()> {
     let feed = [1u32, 1, 4, 3, 1, 1, 2, 2, 3, 3, 4, 4, 1, 2, 2, 3, 3, 4];
     let d = row_of_three(ANY_OBJECT);
-    show_check(b"sheet", &feed, d);
+    show_check(rt, "sheet", &feed, d)?;
     let mut work = [7u32; 42];
     let mut nine = [7u32; 9];
-    show_rows(b"its rows", &feed, d, &mut work, &mut nine);
-    show(b"the slice", 0, 0, &nine);
-    show(b"the work slice", 0, 0, &work);
+    show_rows(rt, "its rows", &feed, d, &mut work, &mut nine)?;
+    show(rt, "the slice", 0, 0, &nine)?;
+    show(rt, "the work slice", 0, 0, &work)?;
     let mut four = [7u32; 4];
-    show_rows(b"in four words", &feed, d, &mut work, &mut four);
+    show_rows(rt, "in four words", &feed, d, &mut work, &mut four)?;
     let mut three = [7u32; 3];
-    show_rows(b"in three words", &feed, d, &mut work, &mut three);
-    show(b"the slice", 0, 0, &three);
-    show(b"the work slice", 0, 0, &work);
+    show_rows(rt, "in three words", &feed, d, &mut work, &mut three)?;
+    show(rt, "the slice", 0, 0, &three)?;
+    show(rt, "the work slice", 0, 0, &work)?;
     let mut short = [7u32; 41];
-    show_rows(b"with 41 work words", &feed, d, &mut short, &mut four);
-    show(b"the slice", 0, 0, &four);
-    show(b"the work slice", 0, 0, &short);
+    show_rows(rt, "with 41 work words", &feed, d, &mut short, &mut four)?;
+    show(rt, "the slice", 0, 0, &four)?;
+    show(rt, "the work slice", 0, 0, &short)
 }
 
 // The same drawing over a two-way label, whose pairs (2,1), (2,3) and (4,3) are met in either direction; and with a mark on the class.
-fn two_way() {
+fn two_way(rt: &impl Print) -> io::Result<()> {
     let feed = [1u32, 1, 4, 32771, 1, 1, 2, 2, 3, 3, 4, 4, 2, 1, 2, 3, 4, 3];
     let d = row_of_three(ANY_OBJECT);
-    show_check(b"two-way", &feed, d);
+    show_check(rt, "two-way", &feed, d)?;
     let mut work = [0u32; 200];
     let mut enough = [7u32; 17];
-    show_rows(b"its rows", &feed, d, &mut work, &mut enough);
-    show(b"the slice", 0, 0, &enough);
+    show_rows(rt, "its rows", &feed, d, &mut work, &mut enough)?;
+    show(rt, "the slice", 0, 0, &enough)?;
     let mut short = [7u32; 15];
-    show_rows(b"in fifteen words", &feed, d, &mut work, &mut short);
+    show_rows(rt, "in fifteen words", &feed, d, &mut work, &mut short)?;
     let marked = [1u32, 1, 32772, 0, 1, 1, 2, 2, 3, 3, 4, 4];
-    show_rows(b"a marked class", &marked, d, &mut work, &mut enough);
+    show_rows(rt, "a marked class", &marked, d, &mut work, &mut enough)
 }
 
 // The same drawing with its middle fixed: to an object that has rows, to one that is not in the class, and past the word for any object.
-fn fixed() {
+fn fixed(rt: &impl Print) -> io::Result<()> {
     let feed = [1u32, 1, 4, 3, 1, 1, 2, 2, 3, 3, 4, 4, 1, 2, 2, 3, 3, 4];
     let mut work = [0u32; 200];
     let mut rows = [7u32; 3];
-    show_check(b"fixed to 2", &feed, row_of_three(2));
-    show_rows(b"its rows", &feed, row_of_three(2), &mut work, &mut rows);
-    show(b"the slice", 0, 0, &rows);
+    show_check(rt, "fixed to 2", &feed, row_of_three(2))?;
+    show_rows(rt, "its rows", &feed, row_of_three(2), &mut work, &mut rows)?;
+    show(rt, "the slice", 0, 0, &rows)?;
     let mut none = [7u32; 3];
-    show_check(b"fixed to 65535", &feed, row_of_three(65535));
+    show_check(rt, "fixed to 65535", &feed, row_of_three(65535))?;
     show_rows(
-        b"its rows",
+        rt,
+        "its rows",
         &feed,
         row_of_three(65535),
         &mut work,
         &mut none,
-    );
-    show(b"the slice", 0, 0, &none);
-    show_check(b"fixed to 65537", &feed, row_of_three(65537));
+    )?;
+    show(rt, "the slice", 0, 0, &none)?;
+    show_check(rt, "fixed to 65537", &feed, row_of_three(65537))?;
     show_rows(
-        b"its rows",
+        rt,
+        "its rows",
         &feed,
         row_of_three(65537),
         &mut work,
         &mut none,
-    );
+    )
 }
 
 // Three nodes more.
@@ -179,39 +174,47 @@ fn edges(d: Drawing) -> Drawing {
 }
 
 // Twelve nodes and one more, 24 edges and one more.
-fn full() {
+fn full(rt: &impl Print) -> io::Result<()> {
     let n = nodes(nodes(nodes(nodes(Drawing::empty()))));
-    show_line(b"12 nodes and one more", n.with_node(0, 1, ANY_OBJECT));
+    show_line(rt, "12 nodes and one more", n.with_node(0, 1, ANY_OBJECT))?;
     let e = edges(edges(edges(edges(edges(edges(n))))));
-    show_line(b"24 edges and one more", e.with_edge(0, 0, 1));
+    show_line(rt, "24 edges and one more", e.with_edge(0, 0, 1))
 }
 
 // A line takes any words: 6 and 7 wait for the drawing's check.
-fn waiting() {
+fn waiting(rt: &impl Print) -> io::Result<()> {
     let feed = [1u32, 1, 1, 0, 5, 5];
     let missing = Drawing::empty().with_node(3, 1, ANY_OBJECT);
-    show_line(b"a class that does not exist", missing);
-    show_check(b"its check", &feed, missing.drawing);
+    show_line(rt, "a class that does not exist", missing)?;
+    show_check(rt, "its check", &feed, missing.drawing)?;
     let edge = Drawing::empty().with_edge(0, 0, 1);
-    show_line(b"an edge before its nodes", edge);
-    show_check(b"its check", &feed, edge.drawing);
+    show_line(rt, "an edge before its nodes", edge)?;
+    show_check(rt, "its check", &feed, edge.drawing)?;
     show_check(
-        b"its nodes added",
+        rt,
+        "its nodes added",
         &feed,
         edge.drawing.with_node(0, 1, ANY_OBJECT).drawing,
-    );
+    )?;
     let unpicked = Drawing::empty().with_node(0, 0, ANY_OBJECT);
-    show_line(b"no node picked", unpicked);
-    show_check(b"its check", &feed, unpicked.drawing);
+    show_line(rt, "no node picked", unpicked)?;
+    show_check(rt, "its check", &feed, unpicked.drawing)?;
     let mut work = [0u32; 200];
     let mut rows = [7u32; 2];
-    show_rows(b"its rows", &feed, unpicked.drawing, &mut work, &mut rows);
+    show_rows(
+        rt,
+        "its rows",
+        &feed,
+        unpicked.drawing,
+        &mut work,
+        &mut rows,
+    )
 }
 
-fn main() {
-    sheet();
-    two_way();
-    fixed();
-    full();
-    waiting();
+fn main(rt: HostRuntime) -> io::Result<()> {
+    sheet(&rt)?;
+    two_way(&rt)?;
+    fixed(&rt)?;
+    full(&rt)?;
+    waiting(&rt)
 }

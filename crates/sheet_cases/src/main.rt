@@ -3,85 +3,73 @@
 
 #![tactic(auto)]
 
-ghost use Rattle.io.specs.Counts.{IsPrefixLen};
+ghost use Rattle.std.specs.Io.{ReadsAtMost};
 
 use matcher::matcher_sheet_query;
 use sheet::{DECIDING_BYTES, LONGEST_LISTING};
+use std::io::{Read, Write};
+use std::rt::Files;
+use std::{env, fs, io};
 
-// Reads the file of this name: how many bytes.
-fn read_file(to: &mut [u8], name: &[u8]) -> usize
-    ensures { IsPrefixLen result to.new }
+// Reads the file of this name, until it ends or the slice is full: how many bytes.
+fn read_file(rt: &impl Files, to: &mut [u8], name: &str) -> io::Result<usize>
+    ensures { ReadsAtMost result to.new }
 {
-    let fd = os::open_read(name);
-    let n = io::read_full(fd, to);
-    libc::close(fd);
-    n
+    let mut file = fs::open(rt, name)?;
+    let mut n = 0;
+    while n < to.len() {
+        let more = file.read(&mut to[n..])?;
+        if more == 0 {
+            return Ok(n);
+        }
+        n += more;
+    }
+    Ok(n)
 }
 
 // Prints the name of a sheet, then its listing.
-fn show(name: &[u8]) {
+fn show(rt: &(impl Files + Print), name: &str) -> io::Result<()> {
     let mut sheet = [0u8; DECIDING_BYTES];
-    let n = read_file(&mut sheet, name);
+    let n = read_file(rt, &mut sheet, name)?;
     let mut listing = [0u8; LONGEST_LISTING];
     let m = matcher_sheet_query(&sheet[0..n], &mut listing);
-    io::write_all(1, name);
-    io::write_all(1, b":\n");
-    io::write_all(1, &listing[0..m]);
-}
-
-// Shows the sheet that argument i names.
-fn show_argument(i: usize) {
-    let mut name = io::buffer();
-    let n = os::arg(i, &mut name);
-    show(&name[..n]);
-}
-
-// Prints a space and a byte as a number.
-fn print(byte: u8) {
-    io::write_all(1, b" ");
-    io::print_decimal(1, byte as u64);
+    println!(rt; "{name}:")?;
+    io::writer(rt).write_all(&listing[0..m])
 }
 
 // Prints each byte as a number.
-fn print_bytes(bytes: &[u8]) {
-    let mut i = 0;
-    while i < bytes.len() {
-        print(bytes[i]);
-        i += 1;
+fn print_bytes(rt: &impl Print, bytes: &[u8]) -> io::Result<()> {
+    for byte in bytes {
+        print!(rt; " {byte}")?;
     }
+    Ok(())
 }
 
-// Lists the first sheet into a slice: prints the lengths of the slice and of the listing, then every byte of the slice.
-fn lend(out: &mut [u8]) {
-    let mut name = io::buffer();
-    let k = os::arg(1, &mut name);
+// Lists a sheet into a slice: prints the lengths of the slice and of the listing, then every byte of the slice.
+fn lend(rt: &(impl Files + Print), name: &str, out: &mut [u8]) -> io::Result<()> {
     let mut sheet = [0u8; DECIDING_BYTES];
-    let n = read_file(&mut sheet, &name[..k]);
+    let n = read_file(rt, &mut sheet, name)?;
     let m = matcher_sheet_query(&sheet[0..n], out);
-    io::print_decimal(1, out.len() as u64);
-    io::write_all(1, b" bytes, ");
-    io::print_decimal(1, m as u64);
-    io::write_all(1, b":");
-    print_bytes(out);
-    io::write_all(1, b"\n");
+    let lent = out.len();
+    print!(rt; "{lent} bytes, {m}:")?;
+    print_bytes(rt, out)?;
+    println!(rt; "")
 }
 
-// Shows every sheet.
-fn show_all() {
-    let n = os::arg_count();
-    let mut i = 1;
-    while i < n {
-        show_argument(i);
-        i += 1;
+// Shows every sheet, then lists the first one again.
+fn main(rt: HostRuntime) -> io::Result<()> {
+    let names: Vec<String> = env::args(&rt)?.skip(1).collect(rt.alloc())?;
+    for name in &names {
+        show(&rt, name.as_str())?;
     }
-}
-
-fn main() {
-    show_all();
+    let first = match names.first() {
+        Some(name) => name.as_str(),
+        None => "",
+    };
     let mut short = [7u8; 11];
-    lend(&mut short);
+    lend(&rt, first, &mut short)?;
     let mut exact = [7u8; 12];
-    lend(&mut exact);
+    lend(&rt, first, &mut exact)?;
     let mut long = [7u8; 14];
-    lend(&mut long);
+    lend(&rt, first, &mut long)
 }
