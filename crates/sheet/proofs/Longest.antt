@@ -161,6 +161,7 @@ refusal-size v =
     omega arith
   where
     short : {f : List ℕ} → f ∈ (bytes "refused" ∷ digits (number v) ∷ digits (location v) ∷ []) → length f < 11
+    short {f = f} (there (there (there x12))) = elim x12 [ ]
     short (here e) = let l = ap length e in omega arith
     short (there (here e)) = let l = ap length e in let d = word-digits (number v) in omega arith
     short (there (there (here e))) = let l = ap length e in let d = word-digits (location v) in omega arith
