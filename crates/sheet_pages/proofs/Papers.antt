@@ -8,7 +8,8 @@ use Rattle.tables.specs.Slices.{table_words, tables_words}
 use Rattle.answers.specs.Verdict.{number, location, unless, ◌then◌, is_accepted}
 use Rattle.feed.specs.Feed.{class_count, label_count, table_count, count_words, body, count_word, is_marked, size_of, counts, is_two_way, pairs_of, cut, tables}
 use Rattle.feed.specs.Feed.{class_table, label_table, label_word, feed_words, check_counts, above, check_pair, check_pairs, check_tables, check_feed}
-use Rattle.drawing.specs.Drawing.{is_picked, is_fixed, node_count, edge_count, node_words, node_of, edge_words, edge_of, drawing_words, read_each, pattern_of, check_node, check_edge, check_each as check_parts, check_length, check_pattern, check_drawing}
+use Rattle.drawing.specs.Drawing.{is_picked, is_fixed, node_count, edge_count, node_words, node_of, edge_words, edge_of, drawing_words, read_each}
+use Rattle.drawing.specs.Drawing.{pattern_of, check_node, check_edge, check_each as check_parts, check_length, check_pattern, check_drawing}
 use Rattle.drawing.specs.Embeddings.{honours, choices, objects, is_met, edge_holds, embeddings, picked, rows}
 use Rattle.algebra.specs.Instructions.{instructions_of, words_of, signatures}
 use Rattle.algebra.specs.Operators.{inverse, composition, intersection, union, both_ways, loaded_label, tag, left_tag, right_tag, tau, cross, with_left, operators, operator}

@@ -16,12 +16,24 @@ loop-i-init c =
 
 pub loop-i-preserved : goal.loop-i-preserved
 loop-i-preserved c =
-    let turn : let a = c.args in verdict_of c.check_edge-found.result then check_from (check_edge a.labels a.n) edge_of edge_width a.words.now (edges_start a.n) a.e (c.loop-i.i + 1) ≡ check_each (check_edge a.labels a.n) edge_width (edges_start a.n) (read_each edge_of edge_width a.e (drop (edges_start a.n) a.words.now)) = let one = rw c.read_edge-x.ensures at c.check_edge-found.ensures in check-next _ _ _ _ _ _ c.loop-i.i c.loop-i-test.true one ∙ c.loop-i.invariant.1 in
+    let turn :
+    let a = c.args in
+    verdict_of c.check_edge-found.result then check_from (check_edge a.labels a.n) edge_of edge_width a.words.now (edges_start a.n) a.e
+    (c.loop-i.i + 1) ≡ check_each (check_edge a.labels a.n) edge_width (edges_start a.n)
+    (read_each edge_of edge_width a.e (drop (edges_start a.n) a.words.now)) =
+    let one = rw c.read_edge-x.ensures at c.check_edge-found.ensures in
+    check-next _ _ _ _ _ _ c.loop-i.i c.loop-i-test.true one ∙ c.loop-i.invariant.1 in
     (omega (arith, c.loop-i-test.true), leaves _ c.in-Accepted.is ∙ turn)
 
 pub returns-in_default : goal.returns-in_default
 returns-in_default c =
-    let turn : let a = c.args in verdict_of c.check_edge-found.result then check_from (check_edge a.labels a.n) edge_of edge_width a.words.now (edges_start a.n) a.e (c.loop-i.i + 1) ≡ check_each (check_edge a.labels a.n) edge_width (edges_start a.n) (read_each edge_of edge_width a.e (drop (edges_start a.n) a.words.now)) = let one = rw c.read_edge-x.ensures at c.check_edge-found.ensures in check-next _ _ _ _ _ _ c.loop-i.i c.loop-i-test.true one ∙ c.loop-i.invariant.1 in
+    let turn :
+    let a = c.args in
+    verdict_of c.check_edge-found.result then check_from (check_edge a.labels a.n) edge_of edge_width a.words.now (edges_start a.n) a.e
+    (c.loop-i.i + 1) ≡ check_each (check_edge a.labels a.n) edge_width (edges_start a.n)
+    (read_each edge_of edge_width a.e (drop (edges_start a.n) a.words.now)) =
+    let one = rw c.read_edge-x.ensures at c.check_edge-found.ensures in
+    check-next _ _ _ _ _ _ c.loop-i.i c.loop-i-test.true one ∙ c.loop-i.invariant.1 in
     stands _ _ c.in_default.not-Accepted ∙ turn
 
 pub returns : goal.returns

@@ -16,12 +16,22 @@ loop-i-init c =
 
 pub loop-i-preserved : goal.loop-i-preserved
 loop-i-preserved c =
-    let turn : let a = c.args in verdict_of c.check_node-found.result then check_from (check_node a.classes) node_of node_width a.words.now head_width a.n (c.loop-i.i + 1) ≡ check_each (check_node a.classes) node_width head_width (read_each node_of node_width a.n (drop head_width a.words.now)) = let one = rw c.read_node-v.ensures at c.check_node-found.ensures in check-next _ _ _ _ _ _ c.loop-i.i c.loop-i-test.true one ∙ c.loop-i.invariant.1 in
+    let turn :
+    let a = c.args in
+    verdict_of c.check_node-found.result then check_from (check_node a.classes) node_of node_width a.words.now head_width a.n (c.loop-i.i + 1)
+    ≡ check_each (check_node a.classes) node_width head_width (read_each node_of node_width a.n (drop head_width a.words.now)) =
+    let one = rw c.read_node-v.ensures at c.check_node-found.ensures in
+    check-next _ _ _ _ _ _ c.loop-i.i c.loop-i-test.true one ∙ c.loop-i.invariant.1 in
     (omega (arith, c.loop-i-test.true), leaves _ c.in-Accepted.is ∙ turn)
 
 pub returns-in_default : goal.returns-in_default
 returns-in_default c =
-    let turn : let a = c.args in verdict_of c.check_node-found.result then check_from (check_node a.classes) node_of node_width a.words.now head_width a.n (c.loop-i.i + 1) ≡ check_each (check_node a.classes) node_width head_width (read_each node_of node_width a.n (drop head_width a.words.now)) = let one = rw c.read_node-v.ensures at c.check_node-found.ensures in check-next _ _ _ _ _ _ c.loop-i.i c.loop-i-test.true one ∙ c.loop-i.invariant.1 in
+    let turn :
+    let a = c.args in
+    verdict_of c.check_node-found.result then check_from (check_node a.classes) node_of node_width a.words.now head_width a.n (c.loop-i.i + 1)
+    ≡ check_each (check_node a.classes) node_width head_width (read_each node_of node_width a.n (drop head_width a.words.now)) =
+    let one = rw c.read_node-v.ensures at c.check_node-found.ensures in
+    check-next _ _ _ _ _ _ c.loop-i.i c.loop-i-test.true one ∙ c.loop-i.invariant.1 in
     stands _ _ c.in_default.not-Accepted ∙ turn
 
 pub returns : goal.returns

@@ -52,11 +52,21 @@ has_pick-requires c =
 pub returns-then-has_pick : goal.returns-then-has_pick
 unfolding verdict_of unless node_count edge_count
 returns-then-has_pick c =
-    let picks-left : (b : Bool) → c.has_pick.result ≡ b → let a = c.args in unless b 7 0 ≡ check_pattern a.feed.now (pattern_of a.words.now) = λ _ e. let a = c.args in let accepts = leaves _ c.in-Accepted-edges.is ∙ leaves _ c.in-Accepted.is in rw (pattern-check a.feed.now a.words.now, ← c.class_count.ensures, ← c.label_count.ensures, ← c.check_nodes-nodes.ensures, ← c.check_edges-edges.ensures, ← c.has_pick.ensures, e) accepts in
+    let picks-left : (b : Bool) → c.has_pick.result ≡ b → let a = c.args in unless b 7 0 ≡ check_pattern a.feed.now (pattern_of a.words.now) =
+    λ _ e.
+    let a = c.args in
+    let accepts = leaves _ c.in-Accepted-edges.is ∙ leaves _ c.in-Accepted.is in
+    rw
+    (pattern-check a.feed.now a.words.now, ← c.class_count.ensures, ← c.label_count.ensures, ← c.check_nodes-nodes.ensures, ← c.check_edges-edges.ensures, ← c.has_pick.ensures, e) accepts in
     picks-left _ c.if-has_pick.true
 
 pub returns : goal.returns
 unfolding verdict_of unless node_count edge_count
 returns c =
-    let picks-left : (b : Bool) → c.has_pick.result ≡ b → let a = c.args in unless b 7 0 ≡ check_pattern a.feed.now (pattern_of a.words.now) = λ _ e. let a = c.args in let accepts = leaves _ c.in-Accepted-edges.is ∙ leaves _ c.in-Accepted.is in rw (pattern-check a.feed.now a.words.now, ← c.class_count.ensures, ← c.label_count.ensures, ← c.check_nodes-nodes.ensures, ← c.check_edges-edges.ensures, ← c.has_pick.ensures, e) accepts in
+    let picks-left : (b : Bool) → c.has_pick.result ≡ b → let a = c.args in unless b 7 0 ≡ check_pattern a.feed.now (pattern_of a.words.now) =
+    λ _ e.
+    let a = c.args in
+    let accepts = leaves _ c.in-Accepted-edges.is ∙ leaves _ c.in-Accepted.is in
+    rw
+    (pattern-check a.feed.now a.words.now, ← c.class_count.ensures, ← c.label_count.ensures, ← c.check_nodes-nodes.ensures, ← c.check_edges-edges.ensures, ← c.has_pick.ensures, e) accepts in
     picks-left _ c.if-has_pick.false

@@ -17,13 +17,23 @@ loop-i-init c =
 pub returns-then-v-eq1 : goal.returns-then-v-eq1
 unfolding any is_picked
 returns-then-v-eq1 c =
-    let turn : let a = c.args in any is_picked (c.read_node-v.result ∷ each_from node_of node_width a.words.now head_width a.n (c.loop-i.i + 1)) ≡ any is_picked (read_each node_of node_width a.n (drop head_width a.words.now)) = let a = c.args in rw c.read_node-v.ensures (rw (each_more node_of node_width a.words.now head_width a.n c.loop-i.i c.loop-i-test.true) at c.loop-i.invariant.1) in
+    let turn :
+    let a = c.args in
+    any is_picked (c.read_node-v.result ∷ each_from node_of node_width a.words.now head_width a.n (c.loop-i.i + 1)) ≡ any is_picked
+    (read_each node_of node_width a.n (drop head_width a.words.now)) =
+    let a = c.args in
+    rw c.read_node-v.ensures (rw (each_more node_of node_width a.words.now head_width a.n c.loop-i.i c.loop-i-test.true) at c.loop-i.invariant.1) in
     rw (eq-eqb _ _ c.if-v-eq1.true) at (turn)
 
 pub loop-i-preserved : goal.loop-i-preserved
 unfolding any is_picked
 loop-i-preserved c =
-    let turn : let a = c.args in any is_picked (c.read_node-v.result ∷ each_from node_of node_width a.words.now head_width a.n (c.loop-i.i + 1)) ≡ any is_picked (read_each node_of node_width a.n (drop head_width a.words.now)) = let a = c.args in rw c.read_node-v.ensures (rw (each_more node_of node_width a.words.now head_width a.n c.loop-i.i c.loop-i-test.true) at c.loop-i.invariant.1) in
+    let turn :
+    let a = c.args in
+    any is_picked (c.read_node-v.result ∷ each_from node_of node_width a.words.now head_width a.n (c.loop-i.i + 1)) ≡ any is_picked
+    (read_each node_of node_width a.n (drop head_width a.words.now)) =
+    let a = c.args in
+    rw c.read_node-v.ensures (rw (each_more node_of node_width a.words.now head_width a.n c.loop-i.i c.loop-i-test.true) at c.loop-i.invariant.1) in
     (omega (arith, c.loop-i-test.true), rw (ne_eqb _ _ c.if-v-eq1.false) at (turn))
 
 pub returns : goal.returns

@@ -25,7 +25,13 @@ check_pairs-found-requires c =
 pub returns-in_default : goal.returns-in_default
 unfolding class_count
 returns-in_default c =
-    let turn : let feed = c.args.feed.now in verdict_of c.check_pairs-found.result then tables_left feed (c.loop-k.k + 1) (c.loop-k.at + 2 * c.size_at-count.result) ≡ check_tables (class_count feed) (2 + table_count feed) (tables feed) = let feed = c.args.feed.now in tables-turn feed (omega arith) c.loop-k.k c.loop-k.at (omega arith) c.loop-k.invariant.1 c.word-classes.ensures c.size_at-count.ensures c.check_pairs-found.ensures ∙ c.loop-k.invariant.2 in
+    let turn :
+    let feed = c.args.feed.now in
+    verdict_of c.check_pairs-found.result then tables_left feed (c.loop-k.k + 1) (c.loop-k.at + 2 * c.size_at-count.result) ≡ check_tables
+    (class_count feed) (2 + table_count feed) (tables feed) =
+    let feed = c.args.feed.now in
+    tables-turn feed (omega arith) c.loop-k.k c.loop-k.at
+    (omega arith) c.loop-k.invariant.1 c.word-classes.ensures c.size_at-count.ensures c.check_pairs-found.ensures ∙ c.loop-k.invariant.2 in
     stands _ _ c.in_default.not-Accepted ∙ turn
 
 pub overflow_mul-at : goal.overflow_mul-at
@@ -41,7 +47,13 @@ overflow_add-at-in-loop-k c =
 pub loop-k-preserved : goal.loop-k-preserved
 unfolding class_count
 loop-k-preserved c =
-    let turn : let feed = c.args.feed.now in verdict_of c.check_pairs-found.result then tables_left feed (c.loop-k.k + 1) (c.loop-k.at + 2 * c.size_at-count.result) ≡ check_tables (class_count feed) (2 + table_count feed) (tables feed) = let feed = c.args.feed.now in tables-turn feed (omega arith) c.loop-k.k c.loop-k.at (omega arith) c.loop-k.invariant.1 c.word-classes.ensures c.size_at-count.ensures c.check_pairs-found.ensures ∙ c.loop-k.invariant.2 in
+    let turn :
+    let feed = c.args.feed.now in
+    verdict_of c.check_pairs-found.result then tables_left feed (c.loop-k.k + 1) (c.loop-k.at + 2 * c.size_at-count.result) ≡ check_tables
+    (class_count feed) (2 + table_count feed) (tables feed) =
+    let feed = c.args.feed.now in
+    tables-turn feed (omega arith) c.loop-k.k c.loop-k.at
+    (omega arith) c.loop-k.invariant.1 c.word-classes.ensures c.size_at-count.ensures c.check_pairs-found.ensures ∙ c.loop-k.invariant.2 in
     let feed = c.args.feed.now in (
       omega arith,
       rw c.size_at-count.ensures (ends_next feed (omega arith) c.loop-k.k c.loop-k.at (omega arith) c.loop-k.invariant.1),

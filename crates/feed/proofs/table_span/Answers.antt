@@ -32,12 +32,18 @@ size_at-requires c =
 
 pub overflow_mul-start : goal.overflow_mul-start
 overflow_mul-start c =
-    let inside : c.loop-j.start + 2 * c.size_at.result ≤ length c.args.feed.now = let a = c.args in let ok = feed-accepted _ c.requires.checked in rw c.size_at.ensures (ends-inside a.feed.now ok.counted c.loop-j.j c.loop-j.start (omega arith) c.loop-j.invariant.1) in
+    let inside : c.loop-j.start + 2 * c.size_at.result ≤ length c.args.feed.now =
+    let a = c.args in
+    let ok = feed-accepted _ c.requires.checked in
+    rw c.size_at.ensures (ends-inside a.feed.now ok.counted c.loop-j.j c.loop-j.start (omega arith) c.loop-j.invariant.1) in
     omega (arith, inside)
 
 pub overflow_add-start-in-loop-j : goal.overflow_add-start-in-loop-j
 overflow_add-start-in-loop-j c =
-    let inside : c.loop-j.start + 2 * c.size_at.result ≤ length c.args.feed.now = let a = c.args in let ok = feed-accepted _ c.requires.checked in rw c.size_at.ensures (ends-inside a.feed.now ok.counted c.loop-j.j c.loop-j.start (omega arith) c.loop-j.invariant.1) in
+    let inside : c.loop-j.start + 2 * c.size_at.result ≤ length c.args.feed.now =
+    let a = c.args in
+    let ok = feed-accepted _ c.requires.checked in
+    rw c.size_at.ensures (ends-inside a.feed.now ok.counted c.loop-j.j c.loop-j.start (omega arith) c.loop-j.invariant.1) in
     omega (arith, inside)
 
 pub loop-j-preserved : goal.loop-j-preserved

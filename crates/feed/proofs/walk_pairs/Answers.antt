@@ -17,12 +17,22 @@ loop-j-init c =
 
 pub returns-in_default : goal.returns-in_default
 returns-in_default c =
-    let turn : let a = c.args in verdict_of c.check_pair-found.result then pairs_left a.feed.now a.class a.at a.count (c.loop-j.j + 1) ≡ check_pairs a.class a.at [] (take a.count (pairs_of (drop a.at a.feed.now))) = let a = c.args in pairs-turn a.feed.now a.class a.at a.count c.loop-j.j (omega arith) (omega arith) c.check_pair-found.ensures ∙ c.loop-j.invariant.1 in
+    let turn :
+    let a = c.args in
+    verdict_of c.check_pair-found.result then pairs_left a.feed.now a.class a.at a.count (c.loop-j.j + 1) ≡ check_pairs a.class a.at []
+    (take a.count (pairs_of (drop a.at a.feed.now))) =
+    let a = c.args in
+    pairs-turn a.feed.now a.class a.at a.count c.loop-j.j (omega arith) (omega arith) c.check_pair-found.ensures ∙ c.loop-j.invariant.1 in
     stands _ _ c.in_default.not-Accepted ∙ turn
 
 pub loop-j-preserved : goal.loop-j-preserved
 loop-j-preserved c =
-    let turn : let a = c.args in verdict_of c.check_pair-found.result then pairs_left a.feed.now a.class a.at a.count (c.loop-j.j + 1) ≡ check_pairs a.class a.at [] (take a.count (pairs_of (drop a.at a.feed.now))) = let a = c.args in pairs-turn a.feed.now a.class a.at a.count c.loop-j.j (omega arith) (omega arith) c.check_pair-found.ensures ∙ c.loop-j.invariant.1 in
+    let turn :
+    let a = c.args in
+    verdict_of c.check_pair-found.result then pairs_left a.feed.now a.class a.at a.count (c.loop-j.j + 1) ≡ check_pairs a.class a.at []
+    (take a.count (pairs_of (drop a.at a.feed.now))) =
+    let a = c.args in
+    pairs-turn a.feed.now a.class a.at a.count c.loop-j.j (omega arith) (omega arith) c.check_pair-found.ensures ∙ c.loop-j.invariant.1 in
     (omega arith, leaves _ c.in-Accepted.is ∙ turn)
 
 pub returns : goal.returns

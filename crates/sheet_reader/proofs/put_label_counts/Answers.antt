@@ -14,13 +14,21 @@ loop-k-init c =
 
 pub put_word-out-requires : goal.put_word-out-requires
 put_word-out-requires c =
-    let next_word : let a = c.args in map label_word (labels_from a.s.now a.rows.now a.t c.loop-k.k) ≡ (c.label_word-n.result ∷ []) ++ map label_word (labels_from a.s.now a.rows.now a.t (c.loop-k.k + 1)) = rw (labels-more c.args.s.now c.args.rows.now c.args.t c.loop-k.k c.requires.names c.loop-k-test.true, c.label_word-n.ensures) in
+    let next_word :
+    let a = c.args in
+    map label_word (labels_from a.s.now a.rows.now a.t c.loop-k.k) ≡ (c.label_word-n.result ∷ []) ++ map label_word
+    (labels_from a.s.now a.rows.now a.t (c.loop-k.k + 1)) =
+    rw (labels-more c.args.s.now c.args.rows.now c.args.t c.loop-k.k c.requires.names c.loop-k-test.true, c.label_word-n.ensures) in
     let r = putting-room (c.label_word-n.result ∷ []) _ (next_word) c.loop-k.invariant.0 c.requires.room in
     omega arith
 
 pub loop-k-preserved : goal.loop-k-preserved
 loop-k-preserved c =
-    let next_word : let a = c.args in map label_word (labels_from a.s.now a.rows.now a.t c.loop-k.k) ≡ (c.label_word-n.result ∷ []) ++ map label_word (labels_from a.s.now a.rows.now a.t (c.loop-k.k + 1)) = rw (labels-more c.args.s.now c.args.rows.now c.args.t c.loop-k.k c.requires.names c.loop-k-test.true, c.label_word-n.ensures) in
+    let next_word :
+    let a = c.args in
+    map label_word (labels_from a.s.now a.rows.now a.t c.loop-k.k) ≡ (c.label_word-n.result ∷ []) ++ map label_word
+    (labels_from a.s.now a.rows.now a.t (c.loop-k.k + 1)) =
+    rw (labels-more c.args.s.now c.args.rows.now c.args.t c.loop-k.k c.requires.names c.loop-k-test.true, c.label_word-n.ensures) in
     (putting-more (next_word) c.loop-k.invariant.0 c.put_word-out.ensures, omega arith)
 
 pub returns : goal.returns

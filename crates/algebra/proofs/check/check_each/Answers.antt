@@ -13,12 +13,28 @@ use Rattle.algebra.proofs.check.check_each.Goals as goal
 
 pub returns-in_default : goal.returns-in_default
 returns-in_default c =
-    let turn : verdict_of c.check_instruction-found.result then check_each c.args.feed.now (c.loop-i.i + 1) (drop (c.loop-i.i + 1) (instructions_of c.args.list.now)) ≡ check_each c.args.feed.now 0 (instructions_of c.args.list.now) = let a = c.args in let i = c.loop-i.i in let code = instructions_of a.list.now in let l : i < length code = omega (arith, length-instructions_of a.list.now) in ap (λ (v : Verdict). v then check_each a.feed.now (i + 1) (drop (i + 1) code)) (c.check_instruction-found.ensures ∙ ap (λ (ins : Instruction). check_instruction a.feed.now i ins) c.instruction_at.ensures) ∙ sym (check-next a.feed.now i code (instruction 0 0 0) l) ∙ c.loop-i.invariant.1 in
+    let turn : verdict_of c.check_instruction-found.result then check_each c.args.feed.now (c.loop-i.i + 1)
+    (drop (c.loop-i.i + 1) (instructions_of c.args.list.now)) ≡ check_each c.args.feed.now 0 (instructions_of c.args.list.now) =
+    let a = c.args in
+    let i = c.loop-i.i in
+    let code = instructions_of a.list.now in
+    let l : i < length code = omega (arith, length-instructions_of a.list.now) in
+    ap (λ (v : Verdict). v then check_each a.feed.now (i + 1) (drop (i + 1) code))
+    (c.check_instruction-found.ensures ∙ ap (λ (ins : Instruction). check_instruction a.feed.now i ins) c.instruction_at.ensures) ∙ sym
+    (check-next a.feed.now i code (instruction 0 0 0) l) ∙ c.loop-i.invariant.1 in
     stands _ _ c.in_default.not-Accepted ∙ turn
 
 pub loop-i-preserved : goal.loop-i-preserved
 loop-i-preserved c =
-    let turn : verdict_of c.check_instruction-found.result then check_each c.args.feed.now (c.loop-i.i + 1) (drop (c.loop-i.i + 1) (instructions_of c.args.list.now)) ≡ check_each c.args.feed.now 0 (instructions_of c.args.list.now) = let a = c.args in let i = c.loop-i.i in let code = instructions_of a.list.now in let l : i < length code = omega (arith, length-instructions_of a.list.now) in ap (λ (v : Verdict). v then check_each a.feed.now (i + 1) (drop (i + 1) code)) (c.check_instruction-found.ensures ∙ ap (λ (ins : Instruction). check_instruction a.feed.now i ins) c.instruction_at.ensures) ∙ sym (check-next a.feed.now i code (instruction 0 0 0) l) ∙ c.loop-i.invariant.1 in
+    let turn : verdict_of c.check_instruction-found.result then check_each c.args.feed.now (c.loop-i.i + 1)
+    (drop (c.loop-i.i + 1) (instructions_of c.args.list.now)) ≡ check_each c.args.feed.now 0 (instructions_of c.args.list.now) =
+    let a = c.args in
+    let i = c.loop-i.i in
+    let code = instructions_of a.list.now in
+    let l : i < length code = omega (arith, length-instructions_of a.list.now) in
+    ap (λ (v : Verdict). v then check_each a.feed.now (i + 1) (drop (i + 1) code))
+    (c.check_instruction-found.ensures ∙ ap (λ (ins : Instruction). check_instruction a.feed.now i ins) c.instruction_at.ensures) ∙ sym
+    (check-next a.feed.now i code (instruction 0 0 0) l) ∙ c.loop-i.invariant.1 in
     (omega arith, leaves _ c.in-Accepted.is ∙ turn)
 
 pub returns : goal.returns
