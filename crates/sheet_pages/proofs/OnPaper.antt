@@ -29,7 +29,6 @@ use Rattle.sheet.specs.SheetQuery.{own_slices}
 use Rattle.sheet.proofs.NodeNames.{Few, Sheet, whole, sheet-few}
 use Rattle.sheet.proofs.Printing.{drawing-accepted, demand, some-pick}
 use Rattle.sheet.proofs.Longest.{rows-of-objects}
-use Rattle.sheet_layout.specs.Pages.{pages}
 use Rattle.sheet_layout.specs.ReadBack.{read_back, Printable}
 use Rattle.sheet_layout.proofs.Lengths.{pages-length}
 use Rattle.sheet_layout.proofs.ReadBack.{reads-back}

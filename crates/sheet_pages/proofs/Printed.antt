@@ -34,6 +34,7 @@ use Rattle.sheet_pages.proofs.OnPaper.{query-accepts, outcome-printable, paged-v
 -- ---- how long pages can be
 
 few-rows : (n k : ℕ) → n * k ≤ sheet_rows → 1 ≤ k → n ≤ sheet_rows
+few-rows n Prim.Native.Nat.zero h some = elim some [ ]
 few-rows n (suc k) h some = omega (arith, mul-suc n k)
 
 row_count : (feed : List ℕ) (p : Pattern) → check_pages feed p ≡ accepted → length (rows feed p) ≤ sheet_rows
