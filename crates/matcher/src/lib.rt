@@ -33,8 +33,8 @@ pub fn matcher_check_drawing(feed: &[u32], drawing: &[u32], place: &mut u32) -> 
 
 // Checks a feed and an instruction list, then runs the list: 1 to 4 and 8 to 11.
 pub fn matcher_run(feed: &[u32], list: &[u32], work: &mut [u32], place: &mut u32) -> u32
-    ensures fact_1 { Says (run feed.now list.now work.old).verdict result place.new }
-    ensures fact_2 { work.new ≡ (run feed.now list.now work.old).work }
+    ensures says { Says (run feed.now list.now work.old).verdict result place.new }
+    ensures words { work.new ≡ (run feed.now list.now work.old).work }
 {
     say(run::run(feed, list, work), place)
 }
