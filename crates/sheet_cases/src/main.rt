@@ -4,6 +4,7 @@
 #![tactic(auto)]
 
 ghost use Rattle.std.specs.Io.{ReadsAtMost};
+ghost use Rattle.std.specs.Prelude.{◌≡◌, OnErr, length};
 
 use matcher::matcher_sheet_query;
 use sheet::{DECIDING_BYTES, LONGEST_LISTING};
@@ -11,9 +12,10 @@ use std::io::{Read, Write};
 use std::rt::Files;
 use std::{env, fs, io};
 
-// Reads the file of this name, until it ends or the slice is full: how many bytes.
+// Reads the file of this name, until it ends or the slice is full: how many bytes. After an error the slice may hold what was read before it.
 fn read_file(rt: &impl Files, to: &mut [u8], name: &str) -> io::Result<usize>
-    ensures { ReadsAtMost result to.new }
+    ensures counted { ReadsAtMost result to.new }
+    ensures failed { OnErr result (length to.new ≡ length to.old) }
 {
     let mut file = fs::open(rt, name)?;
     let mut n = 0;
