@@ -13,10 +13,15 @@ use std::io;
 // The words of classes of 256 and 257 objects, then of a register of the largest size.
 const CROSSED_WORDS: usize = 2 * (256 + 257 + PAIRS);
 
+// Prints a text, then a number.
+fn print(rt: &impl Print, text: &str, n: u32) -> io::Result<()> {
+    print!(rt; "{text}{n}")
+}
+
 // Prints the words from number `from` on.
 fn print_words(rt: &impl Print, words: &[u32], from: usize) -> io::Result<()> {
     for word in words.iter().skip(from) {
-        print!(rt; " {word}")?;
+        print(rt, " ", *word)?;
     }
     Ok(())
 }

@@ -14,10 +14,15 @@ use std::io;
 // The words of the largest drawing.
 const DRAWING_WORDS: usize = HEAD_WORDS + NODE_WORDS * NODES + EDGE_WORDS * EDGES;
 
+// Prints a text, then a number.
+fn print(rt: &impl Print, text: &str, n: u32) -> io::Result<()> {
+    print!(rt; "{text}{n}")
+}
+
 // Prints some words.
 fn print_words(rt: &impl Print, words: &[u32]) -> io::Result<()> {
     for word in words {
-        print!(rt; " {word}")?;
+        print(rt, " ", *word)?;
     }
     Ok(())
 }

@@ -3,54 +3,92 @@
 
 #![tactic(auto)]
 
-ghost use Rattle.std.specs.Io.{ReadsAtMost};
-ghost use Rattle.std.specs.Prelude.{◌≡◌, OnErr, length};
+ghost use Rattle.std.specs.Prelude.{◌≤◌, length};
+ghost use Rattle.std.specs.Counts.{IsPrefixLen};
 
 use matcher::matcher_sheet_query;
 use sheet::{DECIDING_BYTES, LONGEST_LISTING};
+use std::env::{Env, FillError};
 use std::io::{Read, Write};
 use std::rt::Files;
-use std::{env, fs, io};
+use std::{fs, io};
 
-// Reads the file of this name, until it ends or the slice is full: how many bytes. After an error the slice may hold what was read before it.
-fn read_file(rt: &impl Files, to: &mut [u8], name: &str) -> io::Result<usize>
-    ensures counted { ReadsAtMost result to.new }
-    ensures failed { OnErr result (length to.new ≡ length to.old) }
+// The bytes of the longest path.
+const PATH: usize = 4096;
+
+// Reads the file of this name, until it ends, the slice is full or a read fails: how many bytes. None where it cannot be opened.
+fn read_file(rt: &impl Files, to: &mut [u8], name: &[u8]) -> usize
+    ensures { IsPrefixLen result to.new }
 {
-    let mut file = fs::open(rt, name)?;
+    let path = match str::from_utf8(name) {
+        Ok(path) => path,
+        Err(_) => return 0,
+    };
+    let mut file = match fs::open(rt, path) {
+        Ok(file) => file,
+        Err(_) => return 0,
+    };
     let mut n = 0;
     while n < to.len() {
-        let more = file.read(&mut to[n..])?;
+        let more = match file.read(&mut to[n..]) {
+            Ok(more) => more,
+            Err(_) => return n,
+        };
         if more == 0 {
-            return Ok(n);
+            return n;
         }
         n += more;
     }
-    Ok(n)
+    n
 }
 
 // Prints the name of a sheet, then its listing.
-fn show(rt: &(impl Files + Print), name: &str) -> io::Result<()> {
+fn show(rt: &(impl Files + Print), name: &[u8]) -> io::Result<()> {
     let mut sheet = [0u8; DECIDING_BYTES];
-    let n = read_file(rt, &mut sheet, name)?;
+    let n = read_file(rt, &mut sheet, name);
     let mut listing = [0u8; LONGEST_LISTING];
     let m = matcher_sheet_query(&sheet[0..n], &mut listing);
-    println!(rt; "{name}:")?;
+    io::writer(rt).write_all(name)?;
+    println!(rt; ":")?;
     io::writer(rt).write_all(&listing[0..m])
+}
+
+// Puts argument i into the slice: its length, 0 where it is missing or too long.
+fn argument(rt: &impl Env, i: usize, name: &mut [u8]) -> usize
+    ensures { result ≤ length name.new }
+{
+    match rt.arg(i, name) {
+        Ok(n) => n,
+        Err(_) => 0,
+    }
+}
+
+// Shows the sheet that argument i names.
+fn show_argument(rt: &(impl Env + Files + Print), i: usize) -> io::Result<()> {
+    let mut name = [0u8; PATH];
+    let n = argument(rt, i, &mut name);
+    show(rt, &name[..n])
+}
+
+// Prints a space and a byte as a number.
+fn print(rt: &impl Print, byte: u8) -> io::Result<()> {
+    print!(rt; " {byte}")
 }
 
 // Prints each byte as a number.
 fn print_bytes(rt: &impl Print, bytes: &[u8]) -> io::Result<()> {
     for byte in bytes {
-        print!(rt; " {byte}")?;
+        print(rt, *byte)?;
     }
     Ok(())
 }
 
-// Lists a sheet into a slice: prints the lengths of the slice and of the listing, then every byte of the slice.
-fn lend(rt: &(impl Files + Print), name: &str, out: &mut [u8]) -> io::Result<()> {
+// Lists the first sheet into a slice: prints the lengths of the slice and of the listing, then every byte of the slice.
+fn lend(rt: &(impl Env + Files + Print), out: &mut [u8]) -> io::Result<()> {
+    let mut name = [0u8; PATH];
+    let k = argument(rt, 1, &mut name);
     let mut sheet = [0u8; DECIDING_BYTES];
-    let n = read_file(rt, &mut sheet, name)?;
+    let n = read_file(rt, &mut sheet, &name[..k]);
     let m = matcher_sheet_query(&sheet[0..n], out);
     let lent = out.len();
     print!(rt; "{lent} bytes, {m}:")?;
@@ -58,20 +96,23 @@ fn lend(rt: &(impl Files + Print), name: &str, out: &mut [u8]) -> io::Result<()>
     println!(rt; "")
 }
 
-// Shows every sheet, then lists the first one again.
-fn main(rt: HostRuntime) -> io::Result<()> {
-    let names: Vec<String> = env::args(&rt)?.skip(1).collect(rt.alloc())?;
-    for name in &names {
-        show(&rt, name.as_str())?;
+// Shows every sheet.
+fn show_all(rt: &(impl Env + Files + Print)) -> io::Result<()> {
+    for i in 1..usize::MAX {
+        if let Err(FillError::NotPresent) = rt.arg(i, &mut [0u8; 0]) {
+            break;
+        }
+        show_argument(rt, i)?;
     }
-    let first = match names.first() {
-        Some(name) => name.as_str(),
-        None => "",
-    };
+    Ok(())
+}
+
+fn main(rt: HostRuntime) -> io::Result<()> {
+    show_all(&rt)?;
     let mut short = [7u8; 11];
-    lend(&rt, first, &mut short)?;
+    lend(&rt, &mut short)?;
     let mut exact = [7u8; 12];
-    lend(&rt, first, &mut exact)?;
+    lend(&rt, &mut exact)?;
     let mut long = [7u8; 14];
-    lend(&rt, first, &mut long)
+    lend(&rt, &mut long)
 }
