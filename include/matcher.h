@@ -15,11 +15,11 @@
  *
  *       matcher_check_feed       1
  *       matcher_check_drawing    1
- *       matcher_translate       22
+ *       matcher_translate       18
  *       matcher_run            802
  *       matcher_query          820
- *       matcher_sheet_query    584
- *       matcher_sheet_pages    584
+ *       matcher_sheet_query    488
+ *       matcher_sheet_pages    488
  *
  * Calls share no state, keep none and allocate nothing; of the C library they need memcpy and memset. Threads may call at once, each
  * with its own slices to write to; slices that are only read may be shared.
@@ -30,10 +30,10 @@
 #include <stddef.h>
 #include <stdint.h>
 
-#define MATCHER_VERSION "4.0.1"
-#define MATCHER_VERSION_MAJOR 4
+#define MATCHER_VERSION "5.0.0"
+#define MATCHER_VERSION_MAJOR 5
 #define MATCHER_VERSION_MINOR 0
-#define MATCHER_VERSION_PATCH 1
+#define MATCHER_VERSION_PATCH 0
 
 /* Words that take every translation: 876 instructions. */
 #define MATCHER_LIST_WORDS 2628

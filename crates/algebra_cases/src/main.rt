@@ -1,5 +1,5 @@
 // Cases of the algebra: the belt cases of document 01 that concern it, each of the sixteen kinds, registers that are given up, and refusals. Each prints
-// a line: its name, number and place, then the words of the work slice.
+// a line: its name, number and place, then the words of the work slice. The lists stand as words, kinds by their numbers, since it is words that the run takes.
 
 #![tactic(auto)]
 
@@ -156,11 +156,8 @@ fn word(i: usize, second: u32) -> u32
 fn fill(feed: &mut [u32], second: u32)
     requires { length feed.old ≤ largest_object }
 {
-    let size = feed.len();
-    let mut i = 0;
-    while i < size {
-        feed[i] = word(i, second);
-        i += 1;
+    for (i, w) in feed.iter_mut().enumerate() {
+        *w = word(i, second);
     }
 }
 
@@ -187,17 +184,6 @@ fn crossed(rt: &impl Print) -> io::Result<()> {
     show(rt, &mut work, "256 crossed with 257", &refused, &list, last)
 }
 
-// Copies some words to the words from number `at` on.
-fn copy(to: &mut [u32], at: usize, from: &[u32])
-    requires { at + length from.now ≤ length to.old }
-{
-    let mut i = 0;
-    while i < from.len() {
-        to[at + i] = from[i];
-        i += 1;
-    }
-}
-
 // The list of document 01's sheet, its loads and the steps C and D: 33 pairs in all, so 66 words suffice; so do 42, and with 41 there is no room at
 // instruction 5. Cut behind instruction 6, in 42 words, it leaves that register.
 fn sheet(rt: &impl Print) -> io::Result<()> {
@@ -206,9 +192,9 @@ fn sheet(rt: &impl Print) -> io::Result<()> {
     let chain = [3u32, 3, 1, 3, 5, 4];
     let join = [3u32, 0, 6, 3, 7, 2, 7, 8, 0, 8, 8, 0, 9, 8, 0];
     let mut list = [0u32; 36];
-    copy(&mut list, 0, &loads);
-    copy(&mut list, 15, &chain);
-    copy(&mut list, 21, &join);
+    list[..15].copy_from_slice(&loads);
+    list[15..21].copy_from_slice(&chain);
+    list[21..].copy_from_slice(&join);
     let mut all = [7u32; 66];
     show(rt, &mut all, "sheet, room for all", &feed, &list, 0)?;
     let mut enough = [7u32; 42];
@@ -216,8 +202,8 @@ fn sheet(rt: &impl Print) -> io::Result<()> {
     let mut short = [7u32; 41];
     show(rt, &mut short, "sheet, a word short", &feed, &list, 0)?;
     let mut cut = [0u32; 21];
-    copy(&mut cut, 0, &loads);
-    copy(&mut cut, 15, &chain);
+    cut[..15].copy_from_slice(&loads);
+    cut[15..].copy_from_slice(&chain);
     show(rt, &mut enough, "sheet, cut", &feed, &cut, 0)
 }
 

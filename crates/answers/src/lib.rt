@@ -1,16 +1,13 @@
-// Answers: every outcome of a call, once. A new refusal is a line of the enum, a line of `verdict_of` and a line of `number_and_place`.
+// Answers: every refusal of a call, once. A new one is a line of the enum, a line of `refusal_of` and a line of `number_and_place`.
 
 #![tactic(auto)]
 
-ghost use Rattle.std.specs.Prelude.{◌≡◌, eqb};
-ghost use Rattle.answers.specs.Verdict.{number, is_accepted, Says, ◌then◌};
-ghost use Rattle.answers.specs.Answers.{verdict_of};
+ghost use Rattle.answers.specs.Verdict.{Says};
+ghost use Rattle.answers.specs.Answers.{refusal_of, verdict_of};
 
-// How a call ends: each refusal has its number in document 01 and the values that it gives there.
-#[derive(Clone, Copy)]
-pub enum Answer {
-    // 0: accepted.
-    Accepted,
+// How a call refuses: each refusal has its number in document 01 and the values that it gives there.
+#[derive(Clone, Copy, Debug, PartialEq, Eq)]
+pub enum Refusal {
     // 1: the feed has fewer than 2 words, fewer than 2 + C + L, or not exactly the length that the counts give.
     FeedLength,
     // 2: C, L or a count, the word at this place, is over its ceiling.
@@ -47,74 +44,43 @@ pub enum Answer {
     Unused(u32),
 }
 
-// Whether the answer accepts.
-#[tactic(auto, unfolding(crate::specs::Verdict::is_accepted, crate::specs::Answers::verdict_of))]
-pub fn accepts(answer: Answer) -> bool
-    ensures { result ≡ is_accepted (verdict_of answer) }
-{
-    match answer {
-        Answer::Accepted => true,
-        _ => false,
+impl Refusal {
+    // Its number and its place.
+    #[tactic(auto, unfolding(crate::specs::Verdict::number, crate::specs::Verdict::location))]
+    pub fn number_and_place(self) -> (u32, u32)
+        ensures { Says (refusal_of self) result.0 result.1 }
+    {
+        match self {
+            Refusal::FeedLength => (1, 0),
+            Refusal::Ceiling(p) => (2, p),
+            Refusal::Ascent(p) => (3, p),
+            Refusal::Sides(p) => (4, p),
+            Refusal::DrawingLength => (5, 0),
+            Refusal::Missing(p) => (6, p),
+            Refusal::Unpicked => (7, 0),
+            Refusal::ListLength => (8, 0),
+            Refusal::UnknownKind(p) => (9, p),
+            Refusal::Full(i) => (10, i),
+            Refusal::Large(i) => (11, i),
+            Refusal::TooMany => (12, 0),
+            Refusal::Short(n) => (13, n),
+            Refusal::Breach(line) => (14, line),
+            Refusal::TooWide => (15, 0),
+            Refusal::Operand(p) => (16, p),
+            Refusal::Unused(p) => (17, p),
+        }
     }
 }
 
-// Whether the answer is 12, which zeroes what was lent for the rows.
-#[tactic(auto, unfolding(crate::specs::Verdict::number, crate::specs::Answers::verdict_of))]
-pub fn zeroes(answer: Answer) -> bool
-    ensures { result ≡ eqb (number (verdict_of answer)) 12 }
-{
-    match answer {
-        Answer::TooMany => true,
-        _ => false,
-    }
-}
-
-// Two checks in turn: the answer of the first, or of the next where the first accepts.
-pub fn then(first: Answer, next: Answer) -> Answer
-    ensures { verdict_of result ≡ verdict_of first then verdict_of next }
-{
-    let Answer::Accepted = first else {
-        return first;
-    };
-    next
-}
-
-// A number and a place.
-#[derive(Clone, Copy)]
-pub struct Said(pub u32, pub u32);
-
-// The number and the place of an answer.
+// Says how a call ended: gives the number, 0 where it was accepted, and its place behind the reference.
 #[tactic(auto, unfolding(crate::specs::Verdict::number, crate::specs::Verdict::location, crate::specs::Answers::verdict_of))]
-pub fn number_and_place(answer: Answer) -> Said
-    ensures { Says (verdict_of answer) result.0 result.1 }
-{
-    match answer {
-        Answer::Accepted => Said(0, 0),
-        Answer::FeedLength => Said(1, 0),
-        Answer::Ceiling(p) => Said(2, p),
-        Answer::Ascent(p) => Said(3, p),
-        Answer::Sides(p) => Said(4, p),
-        Answer::DrawingLength => Said(5, 0),
-        Answer::Missing(p) => Said(6, p),
-        Answer::Unpicked => Said(7, 0),
-        Answer::ListLength => Said(8, 0),
-        Answer::UnknownKind(p) => Said(9, p),
-        Answer::Full(i) => Said(10, i),
-        Answer::Large(i) => Said(11, i),
-        Answer::TooMany => Said(12, 0),
-        Answer::Short(n) => Said(13, n),
-        Answer::Breach(line) => Said(14, line),
-        Answer::TooWide => Said(15, 0),
-        Answer::Operand(p) => Said(16, p),
-        Answer::Unused(p) => Said(17, p),
-    }
-}
-
-// Says an answer: gives its number, and its place behind the pointer.
-pub fn say(answer: Answer, place: &mut u32) -> u32
+pub fn say<T: Copy>(answer: Result<T, Refusal>, place: &mut u32) -> u32
     ensures { Says (verdict_of answer) result place.new }
 {
-    let s = number_and_place(answer);
-    *place = s.1;
-    s.0
+    let (number, at) = match answer {
+        Ok(_) => (0, 0),
+        Err(refusal) => refusal.number_and_place(),
+    };
+    *place = at;
+    number
 }

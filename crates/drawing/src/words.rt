@@ -1,15 +1,15 @@
 // The words of a drawing: two counts, then those of each node, then those of each edge. Their widths and their order stand here, once for the code.
 
-ghost use Rattle.std.specs.Prelude.{◌≡◌, ◌+◌, ◌*◌, ◌≤◌, length, drop};
+ghost use Rattle.std.specs.Prelude.{ℕ, List, ◌≡◌, ◌+◌, ◌*◌, ◌≤◌, length, drop};
 ghost use mathlib.Core.List.{flat_map};
 ghost use Rattle.answers.specs.Verdict.{accepted, unless};
 ghost use Rattle.tables.specs.inner.Words.{Put};
-ghost use Rattle.drawing.specs.Drawing.{head_width, node_width, edge_width, node_of, edge_of, node_words, edge_words, drawing_words, read_each, check_length};
-ghost use Rattle.drawing.specs.Builder.{empty_drawing, view, WrittenOut};
-ghost use Rattle.drawing.specs.inner.Parts.{add_nodes, add_edges, Sized, EdgesLeft, Read};
+ghost use Rattle.drawing.specs.Drawing.{node_width, edge_width, node_of, edge_of, node_words, edge_words, drawing_words, read_each, check_length};
+ghost use Rattle.drawing.specs.Builder.{view, WrittenOut};
+ghost use Rattle.drawing.specs.inner.Parts.{Read};
 
 use crate::{Drawing, Edge, Node};
-use tables::words::{put_three, put_two};
+use tables::words::put_words;
 
 // ---- the layout
 
@@ -23,24 +23,48 @@ pub const PICK: usize = 1;
 
 pub const FIXED: usize = 2;
 
-// The node whose words start at `at`.
-pub fn read_node(words: &[u32], at: usize) -> Node
-    requires { at + node_width ≤ length words.now }
-    ensures { result ≡ node_of (drop at words.now) }
-{
-    Node {
-        class: words[at],
-        pick: words[at + PICK],
-        fixed: words[at + FIXED],
-    }
+// A part of a drawing that stands there several times, each in so many words.
+pub trait Part: Copy {
+    ghost WORDS: { ℕ };
+
+    ghost words_of: { Self → List ℕ };
+
+    ghost part_of: { List ℕ → Self };
+
+    const WORDS: usize;
+
+    // The part whose words start at `at`.
+    fn read(words: &[u32], at: usize) -> Self
+        requires { at + WORDS ≤ length words.now }
+        ensures { result ≡ part_of (drop at words.now) };
+
+    // Writes its words from place `at` on, and gives the place behind them.
+    fn put(self, words: &mut [u32], at: usize) -> usize
+        requires { at + length (words_of self) ≤ length words.old }
+        ensures { Put words.old words.new at (words_of self) result };
 }
 
-// Writes the words of a node from place `at` on, and gives the place behind them.
-fn write_node(words: &mut [u32], at: usize, v: Node) -> usize
-    requires { at + node_width ≤ length words.old }
-    ensures { Put words.old words.new at (node_words v) result }
-{
-    put_three(words, at, v.class, v.pick, v.fixed)
+impl Part for Node {
+    ghost WORDS = { node_width };
+
+    ghost words_of = { node_words };
+
+    ghost part_of = { node_of };
+
+    const WORDS: usize = NODE_WORDS;
+
+    fn read(words: &[u32], at: usize) -> Node {
+        Node {
+            class: words[at],
+            pick: words[at + PICK],
+            fixed: words[at + FIXED],
+        }
+    }
+
+    #[tactic(auto, unfolding(crate::specs::Drawing::node_words))]
+    fn put(self, words: &mut [u32], at: usize) -> usize {
+        put_words(words, at, &[self.class, self.pick, self.fixed])
+    }
 }
 
 // An edge: label, source, target.
@@ -50,30 +74,33 @@ pub const SOURCE: usize = 1;
 
 pub const TARGET: usize = 2;
 
+impl Part for Edge {
+    ghost WORDS = { edge_width };
+
+    ghost words_of = { edge_words };
+
+    ghost part_of = { edge_of };
+
+    const WORDS: usize = EDGE_WORDS;
+
+    fn read(words: &[u32], at: usize) -> Edge {
+        Edge {
+            label: words[at],
+            source: words[at + SOURCE],
+            target: words[at + TARGET],
+        }
+    }
+
+    #[tactic(auto, unfolding(crate::specs::Drawing::edge_words))]
+    fn put(self, words: &mut [u32], at: usize) -> usize {
+        put_words(words, at, &[self.label, self.source, self.target])
+    }
+}
+
 // Those of the largest drawing.
 pub const MOST_WORDS: usize = HEAD_WORDS
     + NODE_WORDS * Drawing::NODES
     + EDGE_WORDS * Drawing::EDGES;
-
-// The edge whose words start at `at`.
-pub fn read_edge(words: &[u32], at: usize) -> Edge
-    requires { at + edge_width ≤ length words.now }
-    ensures { result ≡ edge_of (drop at words.now) }
-{
-    Edge {
-        label: words[at],
-        source: words[at + SOURCE],
-        target: words[at + TARGET],
-    }
-}
-
-// Writes the words of an edge from place `at` on, and gives the place behind them.
-fn write_edge(words: &mut [u32], at: usize, x: Edge) -> usize
-    requires { at + edge_width ≤ length words.old }
-    ensures { Put words.old words.new at (edge_words x) result }
-{
-    put_three(words, at, x.label, x.source, x.target)
-}
 
 // ---- from words
 
@@ -98,34 +125,16 @@ pub fn right_length(words: &[u32]) -> bool
     words.len() == HEAD_WORDS + NODE_WORDS * n + EDGE_WORDS * e
 }
 
-// The n nodes of words with e edges behind them.
-fn read_nodes(words: &[u32], n: usize, e: usize) -> Drawing
-    requires { Sized words.now n e }
-    ensures { result ≡ add_nodes empty_drawing (read_each node_of node_width n (drop head_width words.now)) }
+// Reads the parts whose words start at `at`, one for each place of a slice.
+fn read_each<T: Part>(xs: &mut [T], words: &[u32], at: usize)
+    requires { at + T.WORDS * length xs.old ≤ length words.now }
+    ensures { xs.new ≡ read_each T.part_of T.WORDS (length xs.old) (drop at words.now) }
 {
-    let mut drawing = Drawing::empty();
-    let mut i = 0;
-    while i < n {
-        drawing.nodes[i] = read_node(words, HEAD_WORDS + NODE_WORDS * i);
-        i += 1;
-        drawing.n = i;
+    let mut from = at;
+    for x in xs.iter_mut() {
+        *x = T::read(words, from);
+        from += T::WORDS;
     }
-    drawing
-}
-
-// The e edges behind n nodes, added to a drawing that has no edge.
-fn read_edges(words: &[u32], n: usize, e: usize, nodes: Drawing) -> Drawing
-    requires { EdgesLeft words.now n e nodes }
-    ensures { result ≡ add_edges nodes (read_each edge_of edge_width e (drop (node_width * n) (drop head_width words.now))) }
-{
-    let mut drawing = nodes;
-    let mut i = 0;
-    while i < e {
-        drawing.edges[i] = read_edge(words, HEAD_WORDS + NODE_WORDS * n + EDGE_WORDS * i);
-        i += 1;
-        drawing.e = i;
-    }
-    drawing
 }
 
 // The drawing of words whose length is right, so that every line fits.
@@ -135,40 +144,26 @@ pub fn read_drawing(words: &[u32]) -> Drawing
 {
     let n = words[0] as usize;
     let e = words[1] as usize;
-    let nodes = read_nodes(words, n, e);
-    read_edges(words, n, e, nodes)
+    let Drawing {
+        mut nodes,
+        mut edges,
+        ..
+    } = Drawing::empty();
+    read_each(&mut nodes[..n], words, HEAD_WORDS);
+    read_each(&mut edges[..e], words, HEAD_WORDS + NODE_WORDS * n);
+    Drawing { nodes, edges, n, e }
 }
 
 // ---- to words
 
-// Writes the nodes from place `at` on, and gives the place behind them.
-fn write_nodes(words: &mut [u32], at: usize, d: Drawing) -> usize
-    requires { at + node_width * length (view d).nodes ≤ length words.old }
-    ensures { Put words.old words.new at (flat_map node_words (view d).nodes) result }
+// Writes parts from place `at` on, and gives the place behind them.
+fn write_each<T: Part>(words: &mut [u32], at: usize, xs: &[T]) -> usize
+    requires { at + length (flat_map T.words_of xs.now) ≤ length words.old }
+    ensures { Put words.old words.new at (flat_map T.words_of xs.now) result }
 {
-    let n = d.node_count();
     let mut out = at;
-    let mut i = 0;
-    while i < n {
-        let v = d.nodes[i];
-        out = write_node(words, out, v);
-        i += 1;
-    }
-    out
-}
-
-// Writes the edges from place `at` on, and gives the place behind them.
-fn write_edges(words: &mut [u32], at: usize, d: Drawing) -> usize
-    requires { at + edge_width * length (view d).edges ≤ length words.old }
-    ensures { Put words.old words.new at (flat_map edge_words (view d).edges) result }
-{
-    let e = d.edge_count();
-    let mut out = at;
-    let mut i = 0;
-    while i < e {
-        let x = d.edges[i];
-        out = write_edge(words, out, x);
-        i += 1;
+    for x in xs {
+        out = x.put(words, out);
     }
     out
 }
@@ -178,11 +173,11 @@ fn write_all(words: &mut [u32], d: Drawing) -> usize
     requires { length (drawing_words (view d)) ≤ length words.old }
     ensures { Put words.old words.new 0 (drawing_words (view d)) result }
 {
-    let n = d.node_count();
-    let e = d.edge_count();
-    let nodes = put_two(words, 0, n as u32, e as u32);
-    let edges = write_nodes(words, nodes, d);
-    write_edges(words, edges, d)
+    let nodes = d.nodes();
+    let edges = d.edges();
+    let head = put_words(words, 0, &[nodes.len() as u32, edges.len() as u32]);
+    let next = write_each(words, head, nodes);
+    write_each(words, next, edges)
 }
 
 impl Drawing {
@@ -190,9 +185,7 @@ impl Drawing {
     pub fn write(self, words: &mut [u32]) -> usize
         ensures { WrittenOut (drawing_words (view self)) words.old words.new result }
     {
-        let n = self.node_count();
-        let e = self.edge_count();
-        let count = HEAD_WORDS + NODE_WORDS * n + EDGE_WORDS * e;
+        let count = HEAD_WORDS + NODE_WORDS * self.nodes().len() + EDGE_WORDS * self.edges().len();
         if words.len() < count {
             return count;
         }

@@ -14,26 +14,29 @@ use lib.ListN.{length, get_or, take, drop, drop_of_length-le, take-append-drop}
 use lib.Seq.{length-take-le}
 use borrow.Author.Tests.{lt-ltb, le-ltb, lt-leb, le-leb, eq-eqb, ne_eqb}
 use Rattle.limits.specs.Limits.{most_classes, most_labels, most_tables, most_table_pairs}
-use Rattle.answers.specs.Verdict.{Verdict, accepted, refused, unless, ◌then◌}
+use Rattle.answers.specs.Verdict.{Verdict, accepted, refused, unless, ◌then◌, is_accepted}
 use Rattle.tables.specs.Lists.{total}
 use Rattle.tables.specs.Order.{Table}
 use Rattle.tables.proofs.Tests.{leb-is}
-use Rattle.answers.proofs.Verdict.{then-accepted, then-assoc, unless-accepted}
+use Rattle.answers.proofs.Verdict.{then-accepted, then-assoc, unless-accepted, refused-first}
+use Rattle.answers.proofs.Refusing.{refuses}
 use Rattle.feed.specs.Feed.{class_count, label_count, table_count, counts, body, pairs_of, cut, tables, check_counts, check_pairs, check_tables, check_feed}
 use Rattle.feed.specs.inner.Parts.{counts_found, Exact}
-use Rattle.feed.specs.declared.Counts.{Counts}
-use Rattle.feed.specs.declared.Counts.TheVariants.{Sum, Over}
+use Rattle.std.specs.Prelude.{Result, Ok, Err}
+use Rattle.answers.specs.Answers.{refusal_of}
+use Rattle.answers.specs.declared.Refusal.{Refusal}
+use Rattle.answers.specs.declared.Refusal.TheVariants.{Ceiling}
 use Rattle.feed.proofs.Words.{length-table, length-counts, counts-next, tables_from, tables-from-start, tables-next, Ends, ends-inside}
 
 -- the check of the counts, from the count k on, with the sum of those before it
-abbrev pub counts_left : List ℕ → ℕ → ℕ → Counts
+abbrev pub counts_left : List ℕ → ℕ → ℕ → Result ℕ Refusal
 counts_left feed sum k = counts_found (check_counts (2 + k) (drop k (counts feed))) (sum + total (drop k (counts feed)))
 
 pub counts_start : (feed : List ℕ) → counts_left feed 0 0 ≡ counts_found (check_counts 2 (counts feed)) (total (counts feed))
 counts_start feed = rw zero-add
 
 module _ (feed : List ℕ) (counted : 2 + table_count feed ≤ length feed) (sum k : ℕ) where
-  pub counts-over : k < table_count feed → most_table_pairs < get_or (counts feed) k 0 → Over (2 + k) ≡ counts_left feed sum k
+  pub counts-over : k < table_count feed → most_table_pairs < get_or (counts feed) k 0 → Err (Ceiling (2 + k)) ≡ counts_left feed sum k
   unfolding check_counts unless ◌then◌ counts_found
   counts-over h l = rw (counts-next feed counted k h, lt-leb (get_or (counts feed) k 0) most_table_pairs l)
 
@@ -43,27 +46,27 @@ module _ (feed : List ℕ) (counted : 2 + table_count feed ≤ length feed) (sum
       let e : 2 + k + 1 ≡ 2 + (k + 1) = omega arith in
       rw (counts-next feed counted k h, le-leb (get_or (counts feed) k 0) most_table_pairs l, e, add_assoc)
 
-  pub counts_end : table_count feed ≤ k → Sum sum ≡ counts_left feed sum k
+  pub counts_end : table_count feed ≤ k → Ok sum ≡ counts_left feed sum k
   unfolding check_counts counts_found total
   counts_end h =
       let l : length (counts feed) ≤ k = rw (length-counts feed counted) h in
       rw (drop_of_length-le (counts feed) l, add-zero)
 
 -- the answer for the counts, and their check
-pub counts-accepted : (v : Verdict) (t : ℕ) {s : ℕ} → Sum s ≡ counts_found v t → (v ≡ accepted) × (s ≡ t)
+pub counts-accepted : (v : Verdict) (t : ℕ) {s : ℕ} → Ok s ≡ counts_found v t → (v ≡ accepted) × (s ≡ t)
 unfolding counts_found
 counts-accepted accepted t e = (refl, cc)
 counts-accepted (refused n p) t e = (cc, cc)
 
-pub counts-refused : (at : ℕ) (ns : List ℕ) (t : ℕ) {p : ℕ} → Over p ≡ counts_found (check_counts at ns) t → refused 2 p ≡ check_counts at ns
+pub counts-refused : (at : ℕ) (ns : List ℕ) (t : ℕ) {r : Refusal} → Err r ≡ counts_found (check_counts at ns) t → refusal_of r ≡ check_counts at ns
 unfolding check_counts counts_found unless ◌then◌
 counts-refused at [] t e = cc
-counts-refused at (n ∷ ns) t {p} e = step (leb n most_table_pairs) (counts-refused (at + 1) ns t) e
+counts-refused at (n ∷ ns) t {r} e = step (leb n most_table_pairs) (counts-refused (at + 1) ns t) e
   where
-    step : (b : Bool) → (Over p ≡ counts_found (check_counts (at + 1) ns) t → refused 2 p ≡ check_counts (at + 1) ns) →
-        Over p ≡ counts_found (unless b 2 at then check_counts (at + 1) ns) t → refused 2 p ≡ unless b 2 at then check_counts (at + 1) ns
-    step true r d = r d
-    step false r d = cc
+    step : (b : Bool) → (Err r ≡ counts_found (check_counts (at + 1) ns) t → refusal_of r ≡ check_counts (at + 1) ns) →
+        Err r ≡ counts_found (unless b 2 at then check_counts (at + 1) ns) t → refusal_of r ≡ unless b 2 at then check_counts (at + 1) ns
+    step true f d = f d
+    step false f d = let q : r ≡ Ceiling at = cc in rw q
 
 -- counts that were accepted are small, and so is their sum
 pub counts-small : (at : ℕ) (ns : List ℕ) → check_counts at ns ≡ accepted → total ns ≤ most_table_pairs * length ns
@@ -185,11 +188,12 @@ module _ (feed : List ℕ) (h : Head feed) where
   after-head =
       rw (le-leb 2 (length feed) h.headed, le-leb (class_count feed) most_classes h.few_classes, le-leb (label_count feed) most_labels h.few_labels, le-leb (2 + table_count feed) (length feed) h.counted)
 
-  pub count-over : {p : ℕ} → Over p ≡ counts_found (check_counts 2 (counts feed)) (total (counts feed)) → refused 2 p ≡ check_feed feed
-  unfolding ◌then◌
-  count-over e = rw (← after-head, ← counts-refused 2 (counts feed) (total (counts feed)) e)
+  pub count-over : {r : Refusal} → Err r ≡ counts_found (check_counts 2 (counts feed)) (total (counts feed)) → refusal_of r ≡ check_feed feed
+  count-over {r} e =
+      let d = counts-refused 2 (counts feed) (total (counts feed)) e in
+      d ∙ sym (refused-first (check_counts 2 (counts feed)) _ (ap is_accepted (sym d) ∙ refuses r)) ∙ after-head
 
-  module _ {s : ℕ} (e : Sum s ≡ counts_found (check_counts 2 (counts feed)) (total (counts feed))) where
+  module _ {s : ℕ} (e : Ok s ≡ counts_found (check_counts 2 (counts feed)) (total (counts feed))) where
     passed : (check_counts 2 (counts feed) ≡ accepted) × (s ≡ total (counts feed))
     passed = counts-accepted (check_counts 2 (counts feed)) (total (counts feed)) e
 

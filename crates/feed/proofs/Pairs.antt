@@ -1,45 +1,20 @@
 -- Pairs: the check of a pair and of a table, in the steps in which the code takes them.
 --
--- In order: the comparison of two pairs; the pair before a pair; the check of a pair; the check of a table, from one of its pairs on.
+-- In order: the pair before a pair; the check of a pair; the check of a table, from one of its pairs on.
 -- Assumes nothing.
 use mathlib.Core.Path.{◌≡◌, refl, sym}
 use mathlib.Core.Bool.{Bool, true, false, ◌&&◌}
 use mathlib.Core.List.{List, [], ◌∷◌}
-use Prim.Native.Nat.{ℕ, zero, suc, ◌+◌, ◌*◌, ◌-◌, ◌<◌, ◌≤◌, compare, Ordering}
+use Prim.Native.Nat.{ℕ, zero, suc, ◌+◌, ◌*◌, ◌-◌, ◌<◌, ◌≤◌}
 use native.Mathlib.Numerals.{add-one}
 use native.Mathlib.Omega.{arith}
-use lib.Dec.{ltb}
 use lib.ListN.{length, take, drop}
-use borrow.Author.Tests.{lt-ltb, le-ltb}
 use Rattle.tables.specs.declared.Pair.{Pair}
-use Rattle.tables.specs.Order.{compare_pair, is_less, next}
+use Rattle.tables.specs.Order.{compare_pair, is_less}
 use Rattle.answers.specs.Verdict.{Verdict, accepted, refused, unless, ◌then◌}
-use Rattle.tables.proofs.Orders.{compare-lt, compare-eq, compare-gt}
 use Rattle.feed.specs.Feed.{pairs_of, above, check_pair, check_pairs}
 use Rattle.feed.specs.inner.Parts.{pair_from, before, Ordered, Even}
 use Rattle.feed.proofs.Words.{pairs-cons}
-
--- the comparison of two pairs
-less-is : (m n : ℕ) → ltb m n ≡ is_less (compare m n)
-less-is m n = step (compare m n) refl
-  where
-    step : (c : Ordering) → compare m n ≡ c → ltb m n ≡ is_less c
-    step Ordering.lt e = lt-ltb m n ((compare-lt m n).0 e)
-    step Ordering.eq e = le-ltb m n (omega (arith, (compare-eq m n).0 e))
-    step Ordering.gt e = le-ltb m n (omega (arith, (compare-gt m n).0 e))
-
-module _ (p q : Pair) where
-  pub left_below : p.left < q.left → true ≡ is_less (compare_pair p q)
-  unfolding compare_pair next
-  left_below h = rw ((compare-lt p.left q.left).1 h)
-
-  pub left-above : q.left < p.left → false ≡ is_less (compare_pair p q)
-  unfolding compare_pair next
-  left-above h = rw ((compare-gt p.left q.left).1 h)
-
-  pub left-same : p.left ≡ q.left → ltb p.right q.right ≡ is_less (compare_pair p q)
-  unfolding compare_pair next
-  left-same h = rw ((compare-eq p.left q.left).1 h) (less-is p.right q.right)
 
 -- the pair before a pair
 pub before-one : (feed : List ℕ) (at j : ℕ) → (j ≡ 0 → ⊥) → before feed at j ≡ pair_from feed (at + 2 * j - 2) ∷ []

@@ -1,6 +1,6 @@
 -- Passing: a table whose pairs are all as they must be, found at one go.
 --
--- In order: small pairs; a pair above another, by their numbers; the pairs passed so far; their sides; the check of a table whose pairs are all as they must be.
+-- In order: small pairs; a pair above another, by their numbers; the pairs passed so far; the check of a table whose pairs are all as they must be.
 -- Assumes nothing.
 use mathlib.Core.Path.{◌≡◌, refl, sym, ◌∙◌}
 use mathlib.Core.Bool.{Bool, true, false, ◌&&◌}
@@ -8,17 +8,20 @@ use mathlib.Core.List.{List, [], ◌∷◌}
 use Prim.Native.Nat.{ℕ, zero, suc, ◌+◌, ◌*◌, ◌-◌, ◌<◌, ◌≤◌}
 use native.Mathlib.Omega.{arith}
 use native.Mathlib.Decide.{dec_lt}
-use lib.Dec.{eqb, leb, ltb}
+use lib.Dec.{leb, ltb}
 use lib.ListN.{length, take, drop}
 use borrow.Author.Tests.{lt-ltb}
 use Rattle.limits.specs.Limits.{largest_object}
 use Rattle.tables.specs.declared.Pair.{Pair}
 use Rattle.tables.specs.Order.{compare_pair, is_less}
+use Rattle.tables.specs.inner.Packing.{packed}
+use Rattle.std.proofs.Math.Nat.{mod-eq_of_lt}
 use Rattle.answers.specs.Verdict.{accepted, ◌then◌}
+use Rattle.tables.proofs.Pairs.{left_below, left-same}
 use Rattle.tables.proofs.Tests.{both_true, leb-is, ltb-is}
 use Rattle.feed.specs.Feed.{pairs_of, above, check_pairs}
 use Rattle.feed.specs.inner.Parts.{pair_from, before, Ordered, Even, Small, Packed, AllOrdered, AllEven, Passes}
-use Rattle.feed.proofs.Pairs.{before-one, left_below, left-same, pair-passes, pairs_left, pairs_start, pairs-turn, pairs_end}
+use Rattle.feed.proofs.Pairs.{before-one, pair-passes, pairs_left, pairs_start, pairs-turn, pairs_end}
 
 -- ---- small pairs
 
@@ -54,8 +57,10 @@ below-by-number p q s t h = step (dec_lt p.left q.left)
 
 -- ---- the pairs passed so far
 
-pub ordered-none : (feed : List ℕ) (at : ℕ) {count : ℕ} → count ≡ 0 → AllOrdered feed at count true
-ordered-none feed at e = record { passes = λ h j l. absurd (omega arith) }
+-- a small pair as one number
+pub packed_small : {p : Pair} {n : ℕ} → n ≡ packed p → Packed p n
+unfolding packed
+packed_small {p} e = record { is = λ h. let l = h.left in let r = h.right in e ∙ rw (mod-eq_of_lt {n = p.left} {m = 65536} (omega arith), mod-eq_of_lt {n = p.right} {m = 65536} (omega arith)) refl }
 
 -- the flag for the first j pairs, and the number of the last of them
 pub record Passing (feed : List ℕ) (at j : ℕ) (good : Bool) (last : ℕ) : Type 0 where
@@ -114,25 +119,6 @@ module _ {feed : List ℕ} {at j : ℕ} {good : Bool} {last : ℕ} (c : Passing 
           let z : i ≡ j = omega arith in
           let g = (both_true good b).0 k.0 in
           rw (z, before-one feed at j (λ n. omega arith)) (newest g.0 g.1 ((ltb-is last n).0 k.1))
-
-  pub passing-end : {count : ℕ} → count ≡ j → AllOrdered feed at count good
-  passing-end e = rw e c.ordered
-
--- ---- their sides
-
-pub even-start : (feed : List ℕ) (at : ℕ) → AllEven feed at 0 true
-even-start feed at = record { passes = λ h j l. absurd (omega arith) }
-
-pub even-next : {feed : List ℕ} {at j : ℕ} {good : Bool} → AllEven feed at j good → {p : Pair} → p ≡ pair_from feed (at + 2 * j)
-    → AllEven feed at (j + 1) (good && eqb p.left p.right)
-even-next {feed} {at} {j} {good} c {p} d = record { passes = λ h i u. step i u ((both_true good (eqb p.left p.right)).0 h) (dec_lt i j) }
-  where
-    step : (i : ℕ) → i < j + 1 → (good ≡ true) × (eqb p.left p.right ≡ true) → Dec (i < j) → Even true (pair_from feed (at + 2 * i)) ≡ true
-    step i u k (yes o) = c.passes k.0 i o
-    step i u k (no o) = let z : i ≡ j = omega arith in rw z (rw d at k.1)
-
-pub even-end : {feed : List ℕ} {at j : ℕ} {good : Bool} → AllEven feed at j good → {count : ℕ} → count ≡ j → AllEven feed at count good
-even-end c e = rw e c
 
 -- ---- the check of the table
 

@@ -8,13 +8,12 @@ use Prim.Native.Nat.{ℕ, zero, suc, ◌+◌, ◌*◌, ◌-◌, ◌<◌, ◌≤�
 use native.Mathlib.Numerals.{add-one}
 use native.Mathlib.Omega.{arith}
 use lib.ListN.{length, get_or, take, drop, length-drop, length-append, length-map, get_or-append, get_or-map}
-use lib.Seq.{drop-cons, drop-drop, get_or-take, get_or-drop, get_or-append-add, length-take-le}
-use Rattle.tables.specs.declared.Pair.{Pair}
+use lib.Seq.{drop-cons, drop-drop, get_or-take, get_or-drop, get_or-append-add, length-take-le, take_all}
 use Rattle.tables.specs.Lists.{total}
 use Rattle.tables.specs.Order.{Table, pair}
-use Rattle.feed.specs.declared.Span.{Span}
+use Rattle.limits.specs.Limits.{most_table_pairs}
 use Rattle.feed.specs.Feed.{class_count, table_count, count_words, is_marked, size_of, counts, is_two_way, body, pairs_of, cut, tables, class_table, label_table}
-use Rattle.feed.specs.inner.Parts.{pair_from, SpanOf}
+use Rattle.feed.specs.inner.Parts.{pair_from, TableOf}
 
 -- the words two by two
 drop-two : (i : ℕ) (ws : List ℕ) → i + 1 < length ws → drop i ws ≡ get_or ws i 0 ∷ get_or ws (i + 1) 0 ∷ drop (i + 2) ws
@@ -42,16 +41,6 @@ pairs-long (suc n) [] h = absurd (omega arith)
 pairs-long (suc n) (u ∷ []) h = absurd (omega arith)
 pairs-long (suc n) (u ∷ v ∷ ws) h = let l = pairs-long n ws (omega arith) in omega arith
 
-get_or-pairs : (j i : ℕ) (ws : List ℕ) (d : Pair) → i + 2 * j + 1 < length ws → get_or (pairs_of (drop i ws)) j d ≡ pair_from ws (i + 2 * j)
-get_or-pairs zero i ws d h =
-    let l : i + 1 < length ws = omega arith in
-    let e : i + 2 * 0 ≡ i = omega arith in
-    rw (pairs-cons i ws, e)
-get_or-pairs (suc j) i ws d h =
-    let l : i + 1 < length ws = omega arith in
-    let e : i + 2 * suc j ≡ i + 2 + 2 * j = omega arith in
-    rw (pairs-cons i ws, e) (get_or-pairs j (i + 2) ws d (omega arith))
-
 -- a table by its place and its count
 module _ (ws : List ℕ) (i n : ℕ) (inside : i + 2 * n ≤ length ws) where
   pub length-table : length (take n (pairs_of (drop i ws))) ≡ n
@@ -59,16 +48,34 @@ module _ (ws : List ℕ) (i n : ℕ) (inside : i + 2 * n ≤ length ws) where
       let l : 2 * n ≤ length (drop i ws) = rw length-drop (omega arith) in
       length-take-le n (pairs_of (drop i ws)) (pairs-long n (drop i ws) l)
 
-  pub table-pair : (j : ℕ) (d : Pair) → j < n → get_or (take n (pairs_of (drop i ws))) j d ≡ pair_from ws (i + 2 * j)
-  table-pair j d h = rw get_or-take (get_or-pairs j i ws d (omega arith))
+-- a table by its words
+pub pairs-front : (n : ℕ) (ws : List ℕ) → pairs_of (take (2 * n) ws) ≡ take n (pairs_of ws)
+unfolding pairs_of
+pairs-front zero ws = refl
+pairs-front (suc n) [] = let e : 2 * suc n ≡ suc (suc (2 * n)) = omega arith in rw e refl
+pairs-front (suc n) (x ∷ []) = let e : 2 * suc n ≡ suc (suc (2 * n)) = omega arith in rw e refl
+pairs-front (suc n) (x ∷ y ∷ ws) = let e : 2 * suc n ≡ suc (suc (2 * n)) = omega arith in rw e (ap (λ (t : Table). pair x y ∷ t) (pairs-front n ws))
 
--- a span
-module _ {feed : List ℕ} {t : Table} {s : Span} (stands : SpanOf feed t s) where
-  pub span-length : length t ≡ s.count
-  span-length = rw (sym stands.pairs) (length-table feed s.start s.count stands.inside)
+-- a slice of words, two by two
+pub length-pairs : (ws : List ℕ) (n : ℕ) → length ws ≡ 2 * n → length (pairs_of ws) ≡ n
+length-pairs ws n e =
+    let t = pairs-front n ws in
+    let z : take (2 * n) ws ≡ ws = take_all (2 * n) ws (omega arith) in
+    ap (λ (us : List ℕ). length (pairs_of us)) (sym z) ∙ ap length t ∙ length-table ws 0 n (omega arith)
 
-  pub span-pair : (j : ℕ) (d : Pair) → j < s.count → get_or t j d ≡ pair (get_or feed (s.start + 2 * j) 0) (get_or feed (s.start + 2 * j + 1) 0)
-  span-pair j d h = rw (sym stands.pairs) (table-pair feed s.start s.count stands.inside j d h)
+pub stored-words : (feed : List ℕ) {t : Table} (i n : ℕ) → i + 2 * n ≤ length feed → n ≤ most_table_pairs → take n (pairs_of (drop i feed)) ≡ t → TableOf feed t (take (2 * n) (drop i feed))
+stored-words feed {t} i n inside short pairs =
+    let m = sym (ap length pairs) ∙ length-table feed i n inside in
+    let d = length-drop i feed in
+    let l = length-take-le (2 * n) (drop i feed) (omega (arith, d)) in
+    record {
+      start = i;
+      part = let e : n ≡ length t = omega (arith, m) in rw e refl;
+      inside = omega (arith, l, inside);
+      even = l ∙ omega (arith, m);
+      short = omega (arith, m);
+      pairs = pairs-front n (drop i feed) ∙ pairs;
+    }
 
 -- the count words, and the counts
 word_at : (feed : List ℕ) (k : ℕ) → k < table_count feed → get_or (count_words feed) k 0 ≡ get_or feed (2 + k) 0

@@ -2,35 +2,15 @@
 #![tactic(auto)]
 
 ghost use Rattle.std.specs.Prelude.{◌≡◌, ◌&&◌, [], ◌+◌, ◌*◌, ◌<◌, ◌≤◌, leb, length, take, drop, get_or};
-ghost use Rattle.tables.specs.Order.{compare_pair, is_less};
 ghost use Rattle.tables.specs.Lists.{total};
 ghost use Rattle.answers.specs.Answers.{verdict_of};
 ghost use Rattle.limits.specs.Limits.{largest_object, two_way_mark};
 ghost use Rattle.feed.specs.Feed.{class_count, label_count, table_count, count_word, is_marked, size_of, counts, is_two_way, tables, class_table, label_table, pairs_of, above, check_counts, check_pair, check_pairs, check_tables, check_feed};
-ghost use Rattle.feed.specs.inner.Parts.{pair_from, before, Packed, AllOrdered, AllEven, Passes, PairIn, TableIn, Counted, HasTable, counts_found, Exact, Among, SpanOf};
+ghost use Rattle.feed.specs.inner.Parts.{pair_from, before, AllOrdered, AllEven, Passes, PairIn, TableIn, Counted, HasTable, counts_found, Exact, Among, TableOf};
 
-use answers::Answer;
+use answers::Refusal;
 use limits::{CLASSES, LABELS, OBJECT, TABLE_PAIRS, TWO_WAY};
-use tables::Pair;
-
-// How many objects there may be: a pair of objects is one number in a word.
-const OBJECTS: u32 = OBJECT + 1;
-
-// What the check of the counts finds.
-#[derive(Clone, Copy)]
-enum Counts {
-    // All pass; this is their sum.
-    Sum(usize),
-    // The count at this place is the first that is over its ceiling.
-    Over(u32),
-}
-
-// A table in the words of a feed: `count` pairs, two words each, from the word `start` on.
-#[derive(Clone, Copy)]
-pub struct Span {
-    pub start: usize,
-    pub count: usize,
-}
+use tables::{Pair, pack};
 
 // The word at i, as a count.
 fn word(feed: &[u32], i: usize) -> usize
@@ -55,7 +35,7 @@ pub fn label_count(feed: &[u32]) -> u32
     feed[1]
 }
 
-// The pair whose left word is at i.
+// The pair whose left word is at i. It has no number, as `tables::pair_at` would ask: a table may begin at an odd word.
 pub fn pair_from(feed: &[u32], i: usize) -> Pair
     requires { i + 1 < length feed.now }
     ensures { result ≡ pair_from feed.now i }
@@ -66,19 +46,6 @@ pub fn pair_from(feed: &[u32], i: usize) -> Pair
     }
 }
 
-// Whether p is below q, by left, then right.
-fn is_below(p: Pair, q: Pair) -> bool
-    ensures { result ≡ is_less (compare_pair p q) }
-{
-    if p.left < q.left {
-        return true;
-    }
-    if q.left < p.left {
-        return false;
-    }
-    p.right < q.right
-}
-
 // Whether p, the pair j of a table that starts at `at`, is above the pair before it.
 fn rises(feed: &[u32], at: usize, j: usize, p: Pair) -> bool
     requires { at + 2 * j + 1 < length feed.now }
@@ -87,7 +54,7 @@ fn rises(feed: &[u32], at: usize, j: usize, p: Pair) -> bool
     if j == 0 {
         return true;
     }
-    is_below(pair_from(feed, at + 2 * j - 2), p)
+    pair_from(feed, at + 2 * j - 2) < p
 }
 
 // Whether p, the pair j of a table that starts at `at`, has values of at most 65,535 and is above the pair before it.
@@ -95,17 +62,11 @@ fn is_ordered(feed: &[u32], at: usize, j: usize, p: Pair) -> bool
     requires { at + 2 * j + 1 < length feed.now }
     ensures { result ≡ (leb p.left largest_object && leb p.right largest_object && above (before feed.now at j) p) }
 {
-    if OBJECT < p.left {
-        return false;
-    }
-    if OBJECT < p.right {
-        return false;
-    }
-    rises(feed, at, j, p)
+    is_small(p) && rises(feed, at, j, p)
 }
 
 // The check of the pair j of a table that starts at `at`.
-fn check_pair(feed: &[u32], class: bool, at: usize, j: usize) -> Answer
+fn check_pair(feed: &[u32], class: bool, at: usize, j: usize) -> Result<(), Refusal>
     requires { PairIn feed.now (at + 2 * j) }
     ensures { verdict_of result ≡ check_pair class (at + 2 * j) (before feed.now at j) (pair_from feed.now (at + 2 * j)) }
 {
@@ -114,22 +75,15 @@ fn check_pair(feed: &[u32], class: bool, at: usize, j: usize) -> Answer
     let ordered = is_ordered(feed, at, j, p);
     let even = !class | (p.left == p.right);
     if ordered & even {
-        return Answer::Accepted;
+        return Ok(());
     }
     if ordered {
-        return Answer::Sides(i as u32);
+        return Err(Refusal::Sides(i as u32));
     }
-    Answer::Ascent(i as u32)
+    Err(Refusal::Ascent(i as u32))
 }
 
 // ---- tables passed at one go
-
-// A pair of objects as one number.
-fn packed(p: Pair) -> u32
-    ensures { Packed p result }
-{
-    p.left % OBJECTS * OBJECTS + p.right % OBJECTS
-}
 
 // Whether p has values of at most 65,535.
 fn is_small(p: Pair) -> bool
@@ -149,34 +103,31 @@ fn all_ordered(feed: &[u32], at: usize, count: usize) -> bool
     }
     let first = pair_from(feed, at);
     let mut good = is_small(first);
-    let mut last = packed(first);
-    let mut j = 1;
-    while j < count {
+    let mut last = pack(first);
+    for j in 1..count {
         let p = pair_from(feed, at + 2 * j);
-        let number = packed(p);
+        let number = pack(p);
         good = good & is_small(p) & (last < number);
         last = number;
-        j += 1;
     }
     good
 }
 
-// Whether each of them has equal sides.
+// Whether each of them has equal sides: no pair is a reason to stop, as above.
 fn all_even(feed: &[u32], at: usize, count: usize) -> bool
     requires { TableIn feed.now at count }
     ensures { AllEven feed.now at count result }
 {
     let mut good = true;
-    let mut j = 0;
-    while j < count {
+    for j in 0..count {
         let p = pair_from(feed, at + 2 * j);
         good = good & (p.left == p.right);
-        j += 1;
     }
     good
 }
 
-// Whether the check of a table of `count` pairs that starts at `at` finds no fault.
+// Whether the check of a table of `count` pairs that starts at `at` finds no fault. It takes the table by its place, as the check does, whose refusals name
+// a place of the feed.
 fn passes(feed: &[u32], class: bool, at: usize, count: usize) -> bool
     requires { TableIn feed.now at count }
     ensures { Passes feed.now class at count result }
@@ -191,28 +142,23 @@ fn passes(feed: &[u32], class: bool, at: usize, count: usize) -> bool
 // ---- tables checked
 
 // The check of a table of `count` pairs that starts at `at`, pair by pair up to the first fault.
-fn walk_pairs(feed: &[u32], class: bool, at: usize, count: usize) -> Answer
+fn walk_pairs(feed: &[u32], class: bool, at: usize, count: usize) -> Result<(), Refusal>
     requires { TableIn feed.now at count }
     ensures { verdict_of result ≡ check_pairs class at [] (take count (pairs_of (drop at feed.now))) }
 {
-    let mut j = 0;
-    while j < count {
-        let found = check_pair(feed, class, at, j);
-        let Answer::Accepted = found else {
-            return found;
-        };
-        j += 1;
+    for j in 0..count {
+        check_pair(feed, class, at, j)?;
     }
-    Answer::Accepted
+    Ok(())
 }
 
 // The check of a table of `count` pairs that starts at `at`.
-fn check_pairs(feed: &[u32], class: bool, at: usize, count: usize) -> Answer
+fn check_pairs(feed: &[u32], class: bool, at: usize, count: usize) -> Result<(), Refusal>
     requires { TableIn feed.now at count }
     ensures { verdict_of result ≡ check_pairs class at [] (take count (pairs_of (drop at feed.now))) }
 {
     if passes(feed, class, at, count) {
-        return Answer::Accepted;
+        return Ok(());
     }
     walk_pairs(feed, class, at, count)
 }
@@ -267,106 +213,90 @@ fn size_at(feed: &[u32], k: usize) -> usize
 }
 
 // The check of the counts, and their sum.
-fn sum_counts(feed: &[u32]) -> Counts
+fn sum_counts(feed: &[u32]) -> Result<usize, Refusal>
     requires { Counted feed.now }
     ensures { result ≡ counts_found (check_counts 2 (counts feed.now)) (total (counts feed.now)) }
 {
     let n = table_count(feed);
     let mut sum = 0;
-    let mut k = 0;
-    while k < n {
+    for k in 0..n {
         let count = size_at(feed, k);
         if TABLE_PAIRS < count {
-            return Counts::Over((2 + k) as u32);
+            return Err(Refusal::Ceiling((2 + k) as u32));
         }
         sum += count;
-        k += 1;
     }
-    Counts::Sum(sum)
+    Ok(sum)
 }
 
 // The check of the tables of a feed whose length is that which its counts give.
-fn check_tables(feed: &[u32]) -> Answer
+fn check_tables(feed: &[u32]) -> Result<(), Refusal>
     requires { Exact feed.now }
     ensures { verdict_of result ≡ check_tables (class_count feed.now) (2 + table_count feed.now) (tables feed.now) }
 {
     let classes = word(feed, 0);
     let n = table_count(feed);
     let mut at = 2 + n;
-    let mut k = 0;
-    while k < n {
+    for k in 0..n {
         let count = size_at(feed, k);
-        let found = check_pairs(feed, k < classes, at, count);
-        let Answer::Accepted = found else {
-            return found;
-        };
+        check_pairs(feed, k < classes, at, count)?;
         at += 2 * count;
-        k += 1;
     }
-    Answer::Accepted
+    Ok(())
 }
 
 // The check of a feed (document 01, refusals 1 to 4).
-pub fn check_feed(feed: &[u32]) -> Answer
+pub fn check_feed(feed: &[u32]) -> Result<(), Refusal>
     ensures { verdict_of result ≡ check_feed feed.now }
 {
     if feed.len() < 2 {
-        return Answer::FeedLength;
+        return Err(Refusal::FeedLength);
     }
     let classes = word(feed, 0);
     if CLASSES < classes {
-        return Answer::Ceiling(0);
+        return Err(Refusal::Ceiling(0));
     }
     let labels = word(feed, 1);
     if LABELS < labels {
-        return Answer::Ceiling(1);
+        return Err(Refusal::Ceiling(1));
     }
     let head = 2 + classes + labels;
     if feed.len() < head {
-        return Answer::FeedLength;
+        return Err(Refusal::FeedLength);
     }
-    match sum_counts(feed) {
-        Counts::Over(place) => Answer::Ceiling(place),
-        Counts::Sum(sum) => {
-            if feed.len() != head + 2 * sum {
-                return Answer::FeedLength;
-            }
-            check_tables(feed)
-        }
+    let sum = sum_counts(feed)?;
+    if feed.len() != head + 2 * sum {
+        return Err(Refusal::FeedLength);
     }
+    check_tables(feed)
 }
 
-// Where the table k stands in a feed that was accepted, classes first.
-fn table_span(feed: &[u32], k: usize) -> Span
+// The words of table k of a feed that was accepted, classes first.
+fn table_words(feed: &[u32], k: usize) -> &[u32]
     requires { Among feed.now (table_count feed.now) k }
-    ensures { SpanOf feed.now (get_or (tables feed.now) k []) result }
+    ensures { TableOf feed.now (get_or (tables feed.now) k []) result.now }
 {
     let mut start = 2 + table_count(feed);
-    let mut j = 0;
-    while j < k {
+    for j in 0..k {
         start += 2 * size_at(feed, j);
-        j += 1;
     }
-    Span {
-        start,
-        count: size_at(feed, k),
-    }
+    &feed[start..start + 2 * size_at(feed, k)]
 }
 
-// Where the table of class k stands in a feed that was accepted.
-pub fn class_table(feed: &[u32], k: usize) -> Span
+// The words of the table of class k of a feed that was accepted.
+pub fn class_table(feed: &[u32], k: usize) -> &[u32]
     requires { Among feed.now (class_count feed.now) k }
-    ensures { SpanOf feed.now (class_table feed.now k) result }
+    ensures { TableOf feed.now (class_table feed.now k) result.now }
 {
-    table_span(feed, k)
+    table_words(feed, k)
 }
 
-// Where the table of label k stands in a feed that was accepted.
-pub fn label_table(feed: &[u32], k: usize) -> Span
+// The words of the table of label k of a feed that was accepted.
+pub fn label_table(feed: &[u32], k: usize) -> &[u32]
     requires { Among feed.now (label_count feed.now) k }
-    ensures { SpanOf feed.now (label_table feed.now k) result }
+    ensures { TableOf feed.now (label_table feed.now k) result.now }
 {
-    table_span(feed, word(feed, 0) + k)
+    table_words(feed, word(feed, 0) + k)
 }
 
 // Whether label k of a feed that was accepted is two-way.

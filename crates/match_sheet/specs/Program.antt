@@ -1,16 +1,9 @@
 -- Program: what the parts of the sheet program promise. No contract can say which bytes a program reads and writes.
 --
--- In order: bytes read into a slice; slices with room; the text of an input. Assumes nothing.
+-- In order: slices with room; the text of an input. Assumes nothing.
 use Rattle.std.specs.Prelude.{ℕ, ◌≤◌, Bool, true, false, ◌≡◌, List, length, take}
 use Rattle.sheet.specs.SheetQuery.{sheet_listing, deciding_bytes}
 use Rattle.sheet_pages.specs.SheetPages.{printed_pages, longest_pages}
-use Rattle.match_sheet.specs.declared.Input.{Input}
-use Rattle.match_sheet.specs.declared.Input.TheVariants.{Read, Failed}
-
--- no more bytes were read than the slice has
-pub data Within (size : ℕ) : Input → Type 0 where
-  read : {n : ℕ} → n ≤ size → Within size (Read n)
-  failed : Within size Failed
 
 -- n bytes of the input were read into a slice that holds those that decide; every text fits
 pub record Room (out input : List ℕ) (n : ℕ) : Type 0 where

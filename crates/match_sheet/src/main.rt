@@ -3,44 +3,32 @@
 
 #![tactic(auto)]
 
-ghost use Rattle.std.specs.Prelude.{length, take};
+ghost use Rattle.std.specs.Prelude.{◌≤◌, IfOk, length, take};
 ghost use Rattle.sheet.specs.SheetQuery.{sheet_listing};
 ghost use Rattle.sheet_pages.specs.SheetPages.{printed_pages};
-ghost use Rattle.match_sheet.specs.Program.{Within, Room, Prints, printed};
+ghost use Rattle.match_sheet.specs.Program.{Room, Prints, printed};
 
-use answers::accepts;
 use sheet::{DECIDING_BYTES, sheet_query};
 use sheet_listing::write_refusal;
 use sheet_pages::{LONGEST_PAGES, sheet_pages};
-use sheet_text::{Span, same_text};
 use std::env::Env;
 use std::io;
 use std::io::{Read, Write};
 
-#[derive(Clone, Copy)]
-enum Input {
-    // So many bytes were read.
-    Read(usize),
-    // A read failed.
-    Failed,
-}
-
-// Reads until the input ends or the slice is full.
-fn read_input(from: &mut impl Read, to: &mut [u8]) -> Input
-    ensures { Within (length to.new) result }
+// Reads until the input ends or the slice is full: how many bytes. It goes on by as many as a read gives.
+// `sheet_cases` has such a loop, which keeps what came before a failed read; a function for both would need a crate of its own, as no library reads files.
+fn read_input(from: &mut impl Read, to: &mut [u8]) -> io::Result<usize>
+    ensures { IfOk result (λ n. n ≤ length to.new) }
 {
     let mut n = 0;
     while n < to.len() {
-        let more = match from.read(&mut to[n..]) {
-            Ok(more) => more,
-            Err(_) => return Input::Failed,
-        };
+        let more = from.read(&mut to[n..])?;
         if more == 0 {
-            return Input::Read(n);
+            break;
         }
         n += more;
     }
-    Input::Read(n)
+    Ok(n)
 }
 
 // The listing of an input of which n bytes were read, and its length.
@@ -56,12 +44,10 @@ fn page(out: &mut [u8], input: &[u8], n: usize) -> usize
     requires { Room out.old input.now n }
     ensures { Prints printed_pages (length input.now) (take n input.now) out.new result }
 {
-    let given = sheet_pages(&input[0..n], out);
-    let answer = given.answer;
-    if accepts(answer) {
-        return given.extent;
+    match sheet_pages(&input[0..n], out) {
+        Ok(length) => length,
+        Err(refusal) => write_refusal(out, refusal),
     }
-    write_refusal(out, answer)
 }
 
 // The one or the other.
@@ -81,12 +67,7 @@ fn wants_pages(rt: &impl Env) -> bool {
     let option = b"--pages";
     let mut first = [0u8; 7];
     match rt.arg(1, &mut first) {
-        Ok(n) => same_text(
-            &first,
-            Span { start: 0, end: n },
-            option,
-            Span { start: 0, end: 7 },
-        ),
+        Ok(n) => &first[..n] == option.as_slice(),
         Err(_) => false,
     }
 }
@@ -94,8 +75,8 @@ fn wants_pages(rt: &impl Env) -> bool {
 fn main(rt: HostRuntime) -> io::Result<()> {
     let mut input = [0u8; DECIDING_BYTES];
     match read_input(&mut rt.stdin(), &mut input) {
-        Input::Failed => eprintln!(rt; "match_sheet: cannot read standard input"),
-        Input::Read(n) => {
+        Err(_) => eprintln!(rt; "match_sheet: cannot read standard input"),
+        Ok(n) => {
             let mut out = [0u8; LONGEST_PAGES];
             let m = text(&mut out, &input, n, wants_pages(&rt));
             match rt.stdout().write_all(&out[0..m]) {

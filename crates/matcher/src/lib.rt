@@ -50,9 +50,8 @@ pub fn matcher_translate(
     ensures { Translates (translate feed.now drawing.now list.old) result place.new list.new instructions.new }
 {
     let made = translate::translate(feed, drawing, list);
-    *instructions = made.instructions as usize;
-    let answer = made.answer;
-    say(answer, place)
+    *instructions = made.unwrap_or(0) as usize;
+    say(made, place)
 }
 
 // Checks a feed and a drawing, translates the drawing, runs the translation and gives the rows: 1 to 7 and 10 to 13.
@@ -69,9 +68,8 @@ pub fn matcher_query(
         list.new work.new rows.new extent.new }
 {
     let given = query::query_into(feed, drawing, list, work, rows);
-    *extent = given.extent;
-    let answer = given.answer;
-    say(answer, place)
+    *extent = given.unwrap_or(0);
+    say(given, place)
 }
 
 // The listing of a sheet: its length, 0 where it does not fit.
@@ -91,7 +89,6 @@ pub fn matcher_sheet_pages(
     ensures { GivesPages (sheet_pages sheet.now pages.old) result place.new pages.new length.new }
 {
     let given = sheet_pages::sheet_pages(sheet, pages);
-    *length = given.extent;
-    let answer = given.answer;
-    say(answer, place)
+    *length = given.unwrap_or(0);
+    say(given, place)
 }

@@ -1,4 +1,5 @@
 // The matcher's calls for C and Rust, each with its clauses: a slice is a pointer, then a length.
+// A crate is a library or an archive, not both: crates call `matcher`, and C calls these.
 
 #![tactic(auto)]
 

@@ -3,16 +3,33 @@
 
 #![tactic(auto)]
 
-use answers::say;
-use drawing::words::{EDGE_WORDS, HEAD_WORDS, NODE_WORDS};
-use drawing::{Built, Drawing};
+use answers::{Refusal, say};
+use drawing::words::MOST_WORDS;
+use drawing::{Drawing, Edge, Node};
 use drawing_check::check_drawing;
-use limits::{ANY_OBJECT, EDGES, LIST_WORDS, NODES};
+use limits::{ANY_OBJECT, LIST_WORDS};
 use query::query;
 use std::io;
 
-// The words of the largest drawing.
-const DRAWING_WORDS: usize = HEAD_WORDS + NODE_WORDS * NODES + EDGE_WORDS * EDGES;
+// A node of class 0, picked or not, that may be any object.
+const PICKED: Node = Node {
+    class: 0,
+    pick: 1,
+    fixed: ANY_OBJECT,
+};
+
+const UNPICKED: Node = Node {
+    class: 0,
+    pick: 0,
+    fixed: ANY_OBJECT,
+};
+
+// An edge of label 0 between nodes 0 and 1.
+const BETWEEN: Edge = Edge {
+    label: 0,
+    source: 0,
+    target: 1,
+};
 
 // Prints a text, then a number.
 fn print(rt: &impl Print, text: &str, n: u32) -> io::Result<()> {
@@ -35,19 +52,22 @@ fn show(rt: &impl Print, name: &str, number: u32, place: u32, words: &[u32]) -> 
 }
 
 // A line's answer, and how many nodes and edges the drawing has after it.
-fn show_line(rt: &impl Print, name: &str, built: Built) -> io::Result<()> {
-    let answer = built.answer;
-    let d = built.drawing;
+fn show_line(
+    rt: &impl Print,
+    name: &str,
+    answer: Result<(), Refusal>,
+    d: &Drawing,
+) -> io::Result<()> {
     let mut place = 0;
     let number = say(answer, &mut place);
-    let nodes = d.node_count();
-    let edges = d.edge_count();
+    let nodes = d.nodes().len();
+    let edges = d.edges().len();
     println!(rt; "{name}: {number} {place}: nodes {nodes}, edges {edges}")
 }
 
 // The words of a drawing, and what its check says of them.
 fn show_check(rt: &impl Print, name: &str, feed: &[u32], d: Drawing) -> io::Result<()> {
-    let mut words = [0u32; DRAWING_WORDS];
+    let mut words = [0u32; MOST_WORDS];
     let n = d.write(&mut words);
     if words.len() < n {
         return Ok(());
@@ -66,7 +86,7 @@ fn show_rows(
     work: &mut [u32],
     rows: &mut [u32],
 ) -> io::Result<()> {
-    let mut words = [0u32; DRAWING_WORDS];
+    let mut words = [0u32; MOST_WORDS];
     let n = d.write(&mut words);
     if words.len() < n {
         return Ok(());
@@ -86,13 +106,30 @@ fn show_rows(
     show(rt, name, number, place, part)
 }
 
+// The drawing of these nodes and edges, as far as there is room for them.
+fn drawn(nodes: &[Node], edges: &[Edge]) -> Drawing {
+    let mut d = Drawing::empty();
+    for v in nodes {
+        let _ = d.add_node(v.class, v.pick, v.fixed);
+    }
+    for x in edges {
+        let _ = d.add_edge(x.label, x.source, x.target);
+    }
+    d
+}
+
 // Three nodes of class 0 in a row, the two outer ones picked, as in document 01's sheet; the one between them is this object.
 fn row_of_three(middle: u32) -> Drawing {
-    let a = Drawing::empty().with_node(0, 1, ANY_OBJECT).drawing;
-    let m = a.with_node(0, 0, middle).drawing;
-    let b = m.with_node(0, 1, ANY_OBJECT).drawing;
-    let first = b.with_edge(0, 0, 1).drawing;
-    first.with_edge(0, 1, 2).drawing
+    let between = Node {
+        fixed: middle,
+        ..UNPICKED
+    };
+    let second = Edge {
+        label: 0,
+        source: 1,
+        target: 2,
+    };
+    drawn(&[PICKED, between, PICKED], &[BETWEEN, second])
 }
 
 // Document 01's sheet: its words, its rows, and no part of a slice that is too short. Of 42 work words the paths and the last node's register stay; with
@@ -163,57 +200,36 @@ fn fixed(rt: &impl Print) -> io::Result<()> {
     )
 }
 
-// Three nodes more.
-fn nodes(d: Drawing) -> Drawing {
-    let first = d.with_node(0, 1, ANY_OBJECT).drawing;
-    let second = first.with_node(0, 1, ANY_OBJECT).drawing;
-    second.with_node(0, 1, ANY_OBJECT).drawing
-}
-
-// Four edges more.
-fn edges(d: Drawing) -> Drawing {
-    let first = d.with_edge(0, 0, 1).drawing;
-    let second = first.with_edge(0, 0, 1).drawing;
-    let third = second.with_edge(0, 0, 1).drawing;
-    third.with_edge(0, 0, 1).drawing
-}
-
 // Twelve nodes and one more, 24 edges and one more.
 fn full(rt: &impl Print) -> io::Result<()> {
-    let n = nodes(nodes(nodes(nodes(Drawing::empty()))));
-    show_line(rt, "12 nodes and one more", n.with_node(0, 1, ANY_OBJECT))?;
-    let e = edges(edges(edges(edges(edges(edges(n))))));
-    show_line(rt, "24 edges and one more", e.with_edge(0, 0, 1))
+    let mut d = drawn(&[PICKED; Drawing::NODES], &[]);
+    let node = d.add_node(0, 1, ANY_OBJECT);
+    show_line(rt, "12 nodes and one more", node, &d)?;
+    let mut e = drawn(&[PICKED; Drawing::NODES], &[BETWEEN; Drawing::EDGES]);
+    let edge = e.add_edge(0, 0, 1);
+    show_line(rt, "24 edges and one more", edge, &e)
 }
 
 // A line takes any words: 6 and 7 wait for the drawing's check.
 fn waiting(rt: &impl Print) -> io::Result<()> {
     let feed = [1u32, 1, 1, 0, 5, 5];
-    let missing = Drawing::empty().with_node(3, 1, ANY_OBJECT);
-    show_line(rt, "a class that does not exist", missing)?;
-    show_check(rt, "its check", &feed, missing.drawing)?;
-    let edge = Drawing::empty().with_edge(0, 0, 1);
-    show_line(rt, "an edge before its nodes", edge)?;
-    show_check(rt, "its check", &feed, edge.drawing)?;
-    show_check(
-        rt,
-        "its nodes added",
-        &feed,
-        edge.drawing.with_node(0, 1, ANY_OBJECT).drawing,
-    )?;
-    let unpicked = Drawing::empty().with_node(0, 0, ANY_OBJECT);
-    show_line(rt, "no node picked", unpicked)?;
-    show_check(rt, "its check", &feed, unpicked.drawing)?;
+    let mut missing = Drawing::empty();
+    let node = missing.add_node(3, 1, ANY_OBJECT);
+    show_line(rt, "a class that does not exist", node, &missing)?;
+    show_check(rt, "its check", &feed, missing)?;
+    let mut early = Drawing::empty();
+    let edge = early.add_edge(0, 0, 1);
+    show_line(rt, "an edge before its nodes", edge, &early)?;
+    show_check(rt, "its check", &feed, early)?;
+    let _ = early.add_node(0, 1, ANY_OBJECT);
+    show_check(rt, "its nodes added", &feed, early)?;
+    let mut unpicked = Drawing::empty();
+    let alone = unpicked.add_node(0, 0, ANY_OBJECT);
+    show_line(rt, "no node picked", alone, &unpicked)?;
+    show_check(rt, "its check", &feed, unpicked)?;
     let mut work = [0u32; 200];
     let mut rows = [7u32; 2];
-    show_rows(
-        rt,
-        "its rows",
-        &feed,
-        unpicked.drawing,
-        &mut work,
-        &mut rows,
-    )
+    show_rows(rt, "its rows", &feed, unpicked, &mut work, &mut rows)
 }
 
 fn main(rt: HostRuntime) -> io::Result<()> {

@@ -4,7 +4,9 @@ use native.Mathlib.Omega.{arith}
 use mathlib.Core.Bool.{Bool, true, false, cond}
 use mathlib.Core.Path.{◌≡◌, refl, ap, ◌∙◌}
 use mathlib.Core.List.{List, [], ◌∷◌, ◌++◌, flat_map}
+use lib.Dec.{eqb}
 use lib.ListN.{length}
+use Rattle.std.specs.List.{filter}
 use Rattle.tables.specs.Lists.{◌∈◌, keep}
 use Rattle.tables.specs.Order.{pair}
 use Rattle.feed.specs.Feed.{class_table}
@@ -43,3 +45,13 @@ module _ (feed : List ℕ) (p : Pattern) (sides : (k u v : ℕ) → pair u v ∈
   -- the words of the rows, cut into rows again
   pub rows_back : 1 ≤ pick_count p → parts_of (pick_count p) (row_words (rows feed p)) ≡ rows feed p
   rows_back some = ap (parts_of (pick_count p)) (joined (rows feed p)) ∙ parts-joined (pick_count p) (rows feed p) some row-length
+
+-- the picked nodes, as the library filters them
+filter-keep : (p : Node → Bool) (vs : List Node) → filter p vs ≡ keep p vs
+unfolding keep
+filter-keep p [] = refl
+filter-keep p (v ∷ vs) = ap (λ r. cond (p v) (v ∷ r) r) (filter-keep p vs)
+
+pub picked-filtered : (vs : List Node) → length (filter (λ v. eqb v.pick 1) vs) ≡ length (keep is_picked vs)
+unfolding is_picked
+picked-filtered vs = ap length (filter-keep (λ v. eqb v.pick 1) vs)

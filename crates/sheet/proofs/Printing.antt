@@ -3,14 +3,14 @@
 -- In order: a query that accepts, its picks and its rows; the question; the listing of an answer, of a refusal; a sheet. Assumes nothing.
 use Prim.Native.Nat.{ℕ, ◌*◌, ◌-◌, ◌≤◌}
 use native.Mathlib.Omega.{arith}
-use mathlib.Core.Bool.{true, false}
+use mathlib.Core.Bool.{false}
 use mathlib.Core.Path.{◌≡◌, refl, sym, ap, ◌∙◌}
 use mathlib.Core.List.{List, [], ◌∷◌}
 use lib.ListN.{length, take, length-replicate}
 use Rattle.limits.specs.Limits.{most_instructions, most_list_words, sheet_rows}
 use Rattle.answers.specs.Verdict.{Verdict, accepted, refused, is_accepted}
-use Rattle.answers.specs.Answers.{verdict_of}
-use Rattle.answers.proofs.Verdict.{accepted-is, then-accepted}
+use Rattle.answers.specs.Answers.{verdict_of, refusal_of}
+use Rattle.answers.proofs.Verdict.{then-accepted}
 use Rattle.tables.specs.Lists.{◌∈◌}
 use Rattle.tables.proofs.Members.{any-true, in-keep}
 use Rattle.tables.proofs.Tests.{true-not-false}
@@ -22,7 +22,6 @@ use Rattle.drawing.specs.Embeddings.{rows}
 use Rattle.drawing.proofs.Encoding.{pattern-back}
 use Rattle.drawing.proofs.Checks.{drawing-feed, drawing-checked}
 use Rattle.algebra.specs.Instructions.{Instruction}
-use Rattle.query_rows.specs.declared.Given.{Given}
 use Rattle.query_answer.specs.Query.{Lent, pick_count, answer, query}
 use Rattle.query_answer.specs.Answers.{slices, Answers as Queried}
 use Rattle.query_answer.specs.Demand.{ThirdDemand}
@@ -30,11 +29,13 @@ use Rattle.query_answer.proofs.Answers.{extent-inside}
 use Rattle.query_answer.proofs.Demand.{third-demand}
 use Rattle.sheet_text.specs.inner.Parts.{names_of}
 use Rattle.sheet_reader.specs.declared.SheetRead.{SheetRead}
+use Rattle.std.specs.Prelude.{Result, Ok, Err}
+use Rattle.answers.specs.declared.Refusal.{Refusal}
+use Rattle.answers.proofs.Refusing.{refuses}
 use Rattle.sheet_reader.specs.Sheet.{Outcome, read, breach, read_sheet}
 use Rattle.sheet_reader.specs.inner.Answers.{verdict_in, Given as Read, Answers}
 use Rattle.sheet_writer.specs.Parts.{parts_of}
 use Rattle.sheet_writer.specs.Picked.{picked_names}
-use Rattle.sheet_writer.specs.inner.Written.{Named}
 use Rattle.sheet_listing.specs.Listing.{listing, refusal, listed_in}
 use Rattle.sheet.specs.SheetQuery.{own_slices, answer_text, query_text, outcome_text, sheet_listing, sheet_query}
 use Rattle.sheet.specs.inner.Printing.{Asked}
@@ -86,10 +87,10 @@ module _ (feed : List ℕ) (p : Pattern) (ok : (query feed (drawing_words p) own
 pub own-slices : {rows₀ : List ℕ} → rows₀ ≡ own_slices.out → slices own_slices.list own_slices.work rows₀ ≡ own_slices
 own-slices e = rw e
 
-pub asked : {feed list₁ work₁ rows₁ : List ℕ} {before : Lent} {p : Pattern} {r : Given} → before ≡ own_slices → Queried feed (drawing_words p) before (slices list₁ work₁ rows₁) r → Asked feed p rows₁ r
-asked own a =
+pub asked : {feed list₁ work₁ rows₁ : List ℕ} {before : Lent} {p : Pattern} {r : Result ℕ Refusal} → before ≡ own_slices → Queried feed (drawing_words p) before (slices list₁ work₁ rows₁) r → Asked feed p rows₁ r
+asked {r = r} own a =
     let b = rw own at a in
-    record { verdict = b.verdict; out = b.out; extent = b.extent; inside = extent-inside a }
+    record { verdict = b.verdict; out = b.out; extent = b.extent; inside = extent-inside b refl }
 
 -- ---- the listing of an answer, of a refusal
 
@@ -98,34 +99,34 @@ unfolding answer_text is_accepted
 refused-text accepted names feed p h = absurd (true-not-false refl h)
 refused-text (refused n l) names feed p h = refl
 
-module _ {feed rows₁ : List ℕ} {p : Pattern} {r : Given} (a : Asked feed p rows₁ r) (names : List (List ℕ)) (out : List ℕ) where
-  pub rows-listed : {picks : ℕ} → is_accepted (verdict_of r.answer) ≡ true → picks ≡ pick_count p
-      → listed_in (listing (picked_names names p.nodes) (parts_of picks (take r.extent rows₁))) out ≡ listed_in (query_text names feed p) out
-  unfolding query_text answer_text
-  rows-listed t e = let ok = sym a.verdict ∙ accepted-is _ t in rw (e, ok, a.extent, a.out, rows_are feed p ok)
+module _ {feed rows₁ : List ℕ} {p : Pattern} where
+  pub query-accepted : {n : ℕ} → Asked feed p rows₁ (Ok n) → (query feed (drawing_words p) own_slices).verdict ≡ accepted
+  unfolding verdict_of
+  query-accepted a = sym a.verdict
 
-  pub refusal-listed : is_accepted (verdict_of r.answer) ≡ false → listed_in (refusal (verdict_of r.answer)) out ≡ listed_in (query_text names feed p) out
-  unfolding query_text
-  refusal-listed t = rw (← a.verdict, refused-text (verdict_of r.answer) names feed p t)
+  module _ (names : List (List ℕ)) (out : List ℕ) where
+    pub rows-listed : {n picks : ℕ} → Asked feed p rows₁ (Ok n) → picks ≡ pick_count p
+        → listed_in (listing (picked_names names p.nodes) (parts_of picks (take (n - 0) rows₁))) out ≡ listed_in (query_text names feed p) out
+    unfolding query_text answer_text
+    rows-listed {n} a e =
+        let z : n - 0 ≡ n = omega arith in
+        let ok = query-accepted a in
+        rw (e, ok, z, a.extent, a.out, rows_are feed p ok)
+
+    pub refusal-listed : {x : Refusal} → Asked feed p rows₁ (Err x) → listed_in (refusal (refusal_of x)) out ≡ listed_in (query_text names feed p) out
+    unfolding query_text verdict_of
+    refusal-listed {x} a = rw (← a.verdict, refused-text (refusal_of x) names feed p (refuses x))
 
 -- ---- a sheet
 
-module _ {s feed : List ℕ} {w : SheetRead} (a : Answers s feed w) where
-  pub sheet-given : is_accepted (verdict_of w.answer) ≡ true → Read s feed w
-  sheet-given t = a.given (accepted-is _ t)
+pub sheet-refused : {s feed : List ℕ} {x : Refusal} → Answers s feed (Err x) → (out : List ℕ) → listed_in (refusal (refusal_of x)) out ≡ sheet_query s out
+unfolding sheet_query sheet_listing outcome_text verdict_in verdict_of is_accepted
+sheet-refused {s} {x = x} a out = rw a.verdict (by (read_sheet s) (rw a.verdict at (refuses x)))
+  where
+    by : (o : Outcome) → is_accepted (verdict_in o) ≡ false → listed_in (refusal (verdict_in o)) out ≡ listed_in (outcome_text o) out
+    by (read r) h = absurd (true-not-false refl h)
+    by (breach at) h = refl
 
-  pub sheet-refused : (out : List ℕ) → is_accepted (verdict_of w.answer) ≡ false → listed_in (refusal (verdict_of w.answer)) out ≡ sheet_query s out
-  unfolding sheet_query sheet_listing outcome_text verdict_in is_accepted
-  sheet-refused out t = rw a.verdict (by (read_sheet s) (rw a.verdict at t))
-    where
-      by : (o : Outcome) → is_accepted (verdict_in o) ≡ false → listed_in (refusal (verdict_in o)) out ≡ listed_in (outcome_text o) out
-      by (read r) h = absurd (true-not-false refl h)
-      by (breach at) h = refl
-
-module _ {s feed : List ℕ} {w : SheetRead} (g : Read s feed w) where
-  pub named : Named s w.nodes w.drawing
-  named = record { spans = g.spans; each = g.drawn }
-
-  pub whole-listed : (out : List ℕ) → listed_in (query_text (names_of s w.nodes) (take (w.feed - 0) feed) (view w.drawing)) out ≡ sheet_query s out
-  unfolding sheet_query sheet_listing outcome_text
-  whole-listed out = let z : w.feed - 0 ≡ w.feed = omega arith in rw (z, g.feeds, g.draws, g.names, g.outcome)
+pub whole-listed : {s feed : List ℕ} {w : SheetRead} → Read s feed w → (out : List ℕ) → listed_in (query_text (names_of w.nodes) (take (w.feed - 0) feed) (view w.drawing)) out ≡ sheet_query s out
+unfolding sheet_query sheet_listing outcome_text
+whole-listed {w = w} g out = let z : w.feed - 0 ≡ w.feed = omega arith in rw (z, g.feeds, g.draws, g.names, g.outcome)

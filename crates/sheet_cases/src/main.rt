@@ -16,23 +16,21 @@ use std::{fs, io};
 // The bytes of the longest path.
 const PATH: usize = 4096;
 
-// Reads the file of this name, until it ends, the slice is full or a read fails: how many bytes. None where it cannot be opened.
+// Reads the file of this name, until it ends, the slice is full or a read fails: how many bytes.
+// 0 and no `Err` where it cannot be opened: a sheet that is not there is listed as an empty one. `match_sheet` gives up at a failed read; this goes on.
 fn read_file(rt: &impl Files, to: &mut [u8], name: &[u8]) -> usize
     ensures { IsPrefixLen result to.new }
 {
-    let path = match str::from_utf8(name) {
-        Ok(path) => path,
-        Err(_) => return 0,
+    let Ok(path) = str::from_utf8(name) else {
+        return 0;
     };
-    let mut file = match fs::open(rt, path) {
-        Ok(file) => file,
-        Err(_) => return 0,
+    let Ok(mut file) = fs::open(rt, path) else {
+        return 0;
     };
     let mut n = 0;
     while n < to.len() {
-        let more = match file.read(&mut to[n..]) {
-            Ok(more) => more,
-            Err(_) => return n,
+        let Ok(more) = file.read(&mut to[n..]) else {
+            return n;
         };
         if more == 0 {
             return n;
@@ -53,14 +51,11 @@ fn show(rt: &(impl Files + Print), name: &[u8]) -> io::Result<()> {
     io::writer(rt).write_all(&listing[0..m])
 }
 
-// Puts argument i into the slice: its length, 0 where it is missing or too long.
+// Puts argument i into the slice: its length, 0 where it is missing or too long, as then the sheet is an empty one.
 fn argument(rt: &impl Env, i: usize, name: &mut [u8]) -> usize
     ensures { result ≤ length name.new }
 {
-    match rt.arg(i, name) {
-        Ok(n) => n,
-        Err(_) => 0,
-    }
+    rt.arg(i, name).unwrap_or(0)
 }
 
 // Shows the sheet that argument i names.

@@ -1,15 +1,14 @@
 -- Writing: the lines of a page, partly written.
 --
--- In order: spaces; the digits of a number, counted; text set right; what is left of a line; the line of a number. Assumes nothing.
-use Prim.Native.Nat.{ℕ, ◌+◌, ◌*◌, ◌-◌, ◌/◌, ◌%◌, ◌^◌, ◌<◌, ◌≤◌}
+-- In order: spaces; text set right; what is left of a line; the line of a number. Assumes nothing.
+use Prim.Native.Nat.{ℕ, ◌+◌, ◌*◌, ◌-◌, ◌<◌, ◌≤◌}
 use native.Mathlib.Omega.{arith}
-use mathlib.Core.Path.{◌≡◌, refl, sym, ap, ◌∙◌}
+use mathlib.Core.Path.{◌≡◌, sym, ap, ◌∙◌}
 use mathlib.Core.List.{List, [], ◌∷◌, ◌++◌, flat_map, append_assoc}
 use lib.ListN.{length, replicate, length-append, replicate-append-replicate}
 use Rattle.limits.specs.Limits.{most_columns, column_width, line_width}
 use Rattle.sheet_text.specs.Text.{bytes, digits}
 use Rattle.sheet_writer.specs.inner.Written.{Put}
-use Rattle.sheet_writer.proofs.Digits.{digits-one, digits_more}
 use Rattle.sheet_writer.proofs.Putting.{put-nothing, put_same, put_then}
 use Rattle.sheet_layout.specs.Pages.{set_right, column_line, number_line}
 
@@ -30,27 +29,6 @@ module _ {before after : List ℕ} {at n i k : ℕ} (s : Spacing before after at
   pub spacing-end : n ≤ i → Put before after at (replicate n 32) k
   spacing-end h = let u = s.up_to in let z : i ≡ n = omega arith in put_same (ap (λ (m : ℕ). replicate m 32) z) s.put
 
--- ---- the digits of a number, counted
-
--- c digits of n are counted, or one more where m has one
-pub record Counting (n m c : ℕ) : Type 0 where
-  pub small : m < 2 ^ 32
-  pub count : c + length (digits m) ≡ 1 + length (digits n)
-  pub less : c + m ≤ 1 + n
-
-pub counting-start : (n : ℕ) → n < 2 ^ 32 → Counting n n 1
-counting-start n h = record { small = h; count = refl; less = omega arith }
-
-module _ {n m c : ℕ} (k : Counting n m c) where
-  pub counting_more : 10 ≤ m → Counting n (m / 10) (c + 1)
-  counting_more h =
-      let e = ap length (digits_more m h k.small) in
-      let l = length-append (digits (m / 10)) ((48 + m % 10) ∷ []) in
-      record { small = omega (arith, k.small); count = omega (arith, k.count); less = omega (arith, k.less) }
-
-  pub counting-end : m < 10 → c ≡ length (digits n)
-  counting-end h = let e = ap length (digits-one m h) in omega (arith, k.count)
-
 -- ---- text set right
 
 pub right-put : (width : ℕ) {before mid after text : List ℕ} {at n k r : ℕ} → n ≡ width - length text → Put before mid at (replicate n 32) k → Put mid after k text r
@@ -58,10 +36,10 @@ pub right-put : (width : ℕ) {before mid after text : List ℕ} {at n k r : ℕ
 unfolding set_right
 right-put width {text = text} e p q = put_same (ap (λ (m : ℕ). replicate m 32 ++ text) e) (put_then p q)
 
--- a number in its column: its digits counted, spaces for the rest, then the number
-pub object-put : (n : ℕ) {before mid after : List ℕ} {at c spaces k r : ℕ} → c ≡ length (digits n) → spaces ≡ column_width - c → Put before mid at (replicate spaces 32) k
-    → Put mid after k (digits n) r → Put before after at (set_right column_width (digits n)) r
-object-put n e z p q = right-put column_width (z ∙ ap (λ (m : ℕ). column_width - m) e) p q
+-- a field in its column: spaces for what its width leaves, then its text
+pub column-put : {before mid after text : List ℕ} {at w n k r : ℕ} → w ≡ length text → n ≡ column_width - w → Put before mid at (replicate n 32) k → Put mid after k text r
+    → Put before after at (set_right column_width text) r
+column-put e z p q = right-put column_width (z ∙ ap (λ (m : ℕ). column_width - m) e) p q
 
 -- ---- what is left of a line
 
@@ -80,16 +58,6 @@ left-next used f fs = let z : used + length (f ∷ fs) ≡ used + 1 + length fs 
 pub left_end : (used : ℕ) → line_left used [] ≡ replicate (column_width * (most_columns - used)) 32 ++ (10 ∷ [])
 unfolding line_left flat_map
 left_end used = let z : used + length {A = List ℕ} [] ≡ used = omega arith in rw z
-
--- the same of a row that starts at a, of which the words from i on are left
-pub row_next : (a i : ℕ) → a ≤ i → (f : List ℕ) (fs : List (List ℕ)) → line_left (i - a) (f ∷ fs) ≡ set_right column_width f ++ line_left (i + 1 - a) fs
-row_next a i h f fs = let z : i - a + 1 ≡ i + 1 - a = omega arith in left-next (i - a) f fs ∙ ap (λ (used : ℕ). set_right column_width f ++ line_left used fs) z
-
-pub row-whole : (a : ℕ) (fs : List (List ℕ)) → column_line fs ≡ line_left (a - a) fs
-row-whole a fs = let z : a - a ≡ 0 = omega arith in rw z (left-whole fs)
-
-pub row-end : (a i e : ℕ) → i ≡ e → line_left (i - a) [] ≡ replicate (column_width * (most_columns - (e - a))) 32 ++ (10 ∷ [])
-row-end a i e z = rw z (left_end (e - a))
 
 -- ---- the line of a page's number
 

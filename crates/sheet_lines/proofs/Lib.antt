@@ -1,4 +1,4 @@
 mod Naming
-mod Entries
+mod Adding
 mod Tests
 pub mod Steps

@@ -1,132 +1,136 @@
 -- Steps: a line that was read, or not, leaves a state that shows what the definition gives, and is in bounds.
 --
--- In order: bounds; a class line; a label line; a node line; an edge line; the lines that touch no values; any line. Assumes nothing.
+-- In order: bounds; a line that is none; a class line; a label line; a node line; an edge line; the lines that touch no values; any line. Assumes nothing.
 use mathlib.Core.Path.{◌≡◌, refl, ◌∙◌, sym, ap}
-use mathlib.Core.Bool.{Bool, true, false, ◌&&◌}
-use mathlib.Core.List.{List, []}
-use mathlib.Core.Option.{Option}
-use Prim.Native.Nat.{ℕ, ◌+◌, ◌-◌, ◌<◌, ◌≤◌}
+use mathlib.Core.Bool.{Bool, true, false, ◌&&◌, not}
+use mathlib.Core.List.{List, [], ◌∷◌, ◌++◌}
+use mathlib.Core.Option.{Option, none}
+use Prim.Native.Nat.{ℕ, ◌+◌, ◌<◌, ◌≤◌}
 use native.Mathlib.Omega.{arith}
 use native.Mathlib.Decide.{dec_lt}
-use borrow.Author.Tests.{le-ltb, ltb-true}
+use borrow.Author.Tests.{le-ltb, lt-ltb, ltb-true, le-leb}
 use lib.Dec.{eqb, ltb}
-use lib.ListN.{length, get_or}
-use lib.Seq.{length-slice}
-use mir.Val.{Val}
-use denote.Laws.{Is}
-use denote.Struct.Declared.{row}
+use denote.Enum.Bare.{sameb}
+use lib.ListN.{length, get_or, length-append}
+use Rattle.std.proofs.Common.{Some, None}
+use Rattle.std.specs.Prelude.{Result, is_ok, Option as Maybe}
+use Rattle.std.specs.Option.{is_some}
 use Rattle.limits.specs.Limits.{most_classes, most_labels, most_nodes, most_edges}
+use Rattle.answers.specs.Verdict.{is_accepted}
+use Rattle.answers.specs.declared.Refusal.{Refusal}
+use Rattle.answers.proofs.Refusing.{accepts}
 use Rattle.tables.specs.Order.{pair}
+use Rattle.tables.proofs.Tests.{both_true}
 use Rattle.drawing.specs.declared.Drawing.{Drawing}
 use Rattle.drawing.specs.declared.Node.{Node}
 use Rattle.drawing.specs.declared.Edge.{Edge}
 use Rattle.drawing.specs.Drawing.{node, edge}
-use Rattle.drawing.specs.Builder.{view, with_node, with_edge}
-use Rattle.drawing.proofs.Builder.{Roomy, roomy, shown-nodes, shown-edges, full-nodes, full-edges, more_nodes, more_edges, node-accepted, node-added, view-node, edge-accepted, edge-added, view-edge}
-use Rattle.sheet_text.specs.declared.Span.{Span}
-use Rattle.sheet_text.specs.declared.Fields.{Fields}
-use Rattle.sheet_text.specs.Text.{fields, is_name, is_number, value_of, same, find, known, number_or_any}
-use Rattle.sheet_text.specs.inner.Parts.{text_at, Inside, Fielded, names_of, with_name}
+use Rattle.drawing.specs.Builder.{view, empty_drawing, Line, with_node, with_edge, line_of, line_where, too_many}
+use Rattle.drawing.proofs.Builder.{Roomy, view-empty, empty-counts, empty-roomy, shown-nodes, shown-edges, full-nodes, full-edges}
+use Rattle.drawing.proofs.Builder.{more_nodes, more_edges, node-accepted, node-added, node-roomy, view-node, edge-roomy, edge-accepted, edge-added, view-edge}
+use Rattle.sheet_text.specs.Text.{fields, is_name, is_number, value_of, same, find, known, is_number_or_dash, number_or_any, is_label_name, clashes}
+use Rattle.sheet_text.specs.inner.Parts.{names_of, Found}
+use Rattle.sheet_text.specs.declared.names.Names.{Names}
 use Rattle.sheet_text.proofs.Words.{name-length, number}
-use Rattle.sheet_text.proofs.Spans.{names-longer, spans-longer}
-use Rattle.sheet_lines.specs.declared.Tables.{Tables}
+use Rattle.sheet_text.proofs.Finding.{find-bound, length-names}
+use Rattle.sheet_text.proofs.Parts.{two-size, three-size}
+use Rattle.sheet_lines.specs.declared.entries.Tables.{Tables}
 use Rattle.sheet_lines.specs.declared.State.{State}
-use Rattle.sheet_lines.specs.declared.Step.{Step}
-use Rattle.sheet_lines.specs.Reading.{Reading, allow, turn_to, with_classes, with_labels, with_node as add_node, with_edge as add_edge, read_class, read_label, read_node, read_edge, end_section, headers, read_header}
-use Rattle.sheet_lines.specs.inner.State.{tables_read, view_of, is_class_line, is_label_line, is_node_line, Fine, Ready, step_by, with_drawing, node_step, edge_step, turned, end_step, Lined, ClassRead, LabelRead, OtherRead, LineRead}
-use Rattle.sheet_lines.proofs.Tests.{class-tested, label-tested, node-tested, edge-tested, class-passed, label-passed, header-tested}
-use Rattle.sheet_lines.specs.contracts.State.{the_type}
+use Rattle.sheet_lines.specs.declared.section.Section.{Section}
+use Rattle.sheet_lines.specs.declared.section.Section.TheVariants.{Classes, Labels, Nodes, Edges}
+use Rattle.sheet_lines.specs.Reading.{Reading, allow, turn_to, with_line, fits_table, with_classes, with_labels, with_node as add_node, with_edge as add_edge}
+use Rattle.sheet_lines.specs.Reading.{read_class, read_label, read_node, read_edge, end_section, headers, read_header, read_values, read_line, nothing}
+use Rattle.sheet_lines.specs.inner.State.{tables_read, view_of, Linable, nothing_read, number_of, Empty, Fine, Ready, LineRead}
+use Rattle.sheet_lines.specs.contracts.section.Section.{the_type}
+use Rattle.sheet_lines.proofs.Naming.{fits-bound}
+use Rattle.sheet_lines.proofs.Adding.{names-after, lines-after}
+use Rattle.sheet_lines.proofs.Tests.{class-shown, label-shown, node-shown, edge-shown, values_of, header-tested, header-first, line-of-values, line-of-end}
 
--- ---- bounds
+and-false : (b : Bool) → b && false ≡ false
+and-false true = refl
+and-false false = refl
 
--- every value of the type has room in its drawing
-pub state-roomy : (x : State) {vs : List Val} → Is (row the_type) x vs → Roomy x.drawing
-state-roomy x g = roomy x.drawing g.1.1.1.1.1.1.1.0
+and-true : (b : Bool) → b && true ≡ b
+and-true true = refl
+and-true false = refl
 
-pub fine-later : {s : List ℕ} {a b : ℕ} {x : State} → Fine s a x → a ≤ b → Fine s b x
-fine-later f h = record { section = f.section; classes = f.classes; labels = f.labels; nodes = f.nodes; drawn = f.drawn; lines = omega (arith, f.lines) }
+-- a number of a name fits a word
+pub place-small : {name : List ℕ} (x : Names) {k : ℕ} → Found name (names_of x) (Some k) → k ≤ most_labels
+place-small {name} x f = omega (arith, f.place, find-bound name (names_of x), length-names x, x.few)
 
-pub after_line : {s : List ℕ} {line : Span} {x : State} → Ready s line x → Fine s (line.end + 1) x
-after_line g = fine-later g.fine (omega (arith, g.inside.ordered))
+-- ---- a line that is none
 
--- a name or a number has a byte
-some-name : {s : List ℕ} {p : Span} → Inside s p → is_name (text_at s p) ≡ true → 1 ≤ p.end - p.start
-some-name {s} {p} i t = let h = name-length (text_at s p) t in omega (arith, length-slice p.start p.end s i.ends)
+module _ {line : List ℕ} {x : State} (g : Ready line x) where
+  pub unread : {reads : Reading → Option Reading} → none ≡ reads (view_of x) → LineRead line x x None reads
+  unfolding allow
+  unread e = record { answer = e; fine = g.fine; count = omega arith }
 
-some_number : {s : List ℕ} {p : Span} → Inside s p → is_number (text_at s p) ≡ true → 1 ≤ p.end - p.start
-some_number {s} {p} i t = let h = (number (text_at s p) t).some in omega (arith, length-slice p.start p.end s i.ends)
+  -- ---- a class line
 
--- ---- a class line, a label line
+  module _ {a b : List ℕ} (e : fields line ≡ a ∷ b ∷ []) where
+    pub class-unread : (is_name a && fits_table most_classes a (names_of x.classes.names) && is_number b) ≡ false → LineRead line x x None (λ v. read_class v (fields line))
+    unfolding view_of allow tables_read
+    class-unread t = unread (rw t at (class-shown (view_of x) e))
 
-module _ {s : List ℕ} {line : Span} {x : State} (g : Ready s line x) {f : Fields} (w : Fielded s line f) where
-  abbrev first : List ℕ
-  first = text_at s f.first
+    module _ (t : (is_name a && fits_table most_classes a (names_of x.classes.names) && is_number b) ≡ true) where
+      class-size : 3 ≤ length line
+      class-size =
+          let p = simp both_true at t in
+          omega (arith, two-size line e, name-length a p.0.0, (number b p.1).some)
 
-  abbrev second : List ℕ
-  second = text_at s f.second
+      pub class-linable : Linable a x.classes
+      unfolding fits_table
+      class-linable =
+          let p = simp both_true at t in
+          let h = fits-bound a (names_of x.classes.names) most_classes p.0.1 in
+          record { fits = le-leb _ most_labels (omega arith); room = omega (arith, class-size, g.short) }
 
-  abbrev third : List ℕ
-  third = text_at s f.third
+      pub class-read : {u : ℕ} (new : Tables) → u ≡ value_of b → tables_read new ≡ with_line a (pair u u) (tables_read x.classes) →
+          LineRead line x (record { section = x.section; opened = x.opened; classes = new; labels = x.labels; nodes = x.nodes; drawing = x.drawing }) (Some tt) (λ v. read_class v (fields line))
+      unfolding view_of allow with_classes tables_read
+      class-read {u = u} new value m =
+          let f = g.fine in
+          let p = simp both_true at t in
+          let h = fits-bound a (names_of x.classes.names) most_classes p.0.1 in
+          record {
+            answer = rw (m, value) (rw t at (class-shown (view_of x) e));
+            fine = record { classes = rw (names-after a _ x.classes new m) h; labels = f.labels; nodes = f.nodes; drawn = f.drawn; node_room = f.node_room; edge_room = f.edge_room };
+            count = omega (arith, class-size, lines-after a (pair u u) x.classes new m);
+          }
 
-  module _ {ws ws' : List ℕ} where
-    pub class-read : {u : ℕ} {t : Tables} → is_class_line s f (names_of s x.classes.names) ≡ true →
-        u ≡ value_of second → Lined s first most_classes (pair u u) ws ws' x.classes t →
-        ClassRead s ws ws' line x
-        (record { read = true; state = record { section = x.section; opened = x.opened; classes = t; labels = x.labels; nodes = x.nodes; drawing = x.drawing } })
-        (λ v. read_class v (fields (text_at s line)))
-    unfolding view_of allow with_classes tables_read
-    class-read test value l =
-        let h = g.fine in
-        let p = class-passed w _ test in
-        let n = some-name w.within.first p.1 in
-        let o = some_number w.within.second p.3 in
-        record {
-          answer = λ vs. rw (l.tables, value) (class-tested w (view_of s ws vs x) true test);
-          fine = record {
-            section = h.section;
-            classes = l.spans;
-            labels = h.labels;
-            nodes = h.nodes;
-            drawn = h.drawn;
-            lines = omega (arith, h.lines, l.counted, p.0.starts, p.0.apart, p.0.ends);
-          };
-          size = l.size;
-        }
+  -- ---- a label line
 
-    pub label-read : {p q : ℕ} {t : Tables} → is_label_line s f (names_of s x.labels.names) ≡ true →
-        p ≡ value_of second → q ≡ value_of third → Lined s first most_labels (pair p q) ws ws' x.labels t →
-        LabelRead s ws ws' line x
-        (record { read = true; state = record { section = x.section; opened = x.opened; classes = x.classes; labels = t; nodes = x.nodes; drawing = x.drawing } })
-        (λ v. read_label v (fields (text_at s line)))
-    unfolding view_of allow with_labels tables_read
-    label-read test left right l =
-        let h = g.fine in
-        let p = label-passed w _ test in
-        let o = some_number w.within.third p.3 in
-        record {
-          answer = λ vs. rw (l.tables, left, right) (label-tested w (view_of s vs ws x) true test);
-          fine = record {
-            section = h.section;
-            classes = h.classes;
-            labels = l.spans;
-            nodes = h.nodes;
-            drawn = h.drawn;
-            lines = omega (arith, h.lines, l.counted, p.0.starts, p.0.apart, p.0.after, p.0.ends, w.within.first.ordered, w.within.second.ordered);
-          };
-          size = l.size;
-        }
+  module _ {a b c : List ℕ} (e : fields line ≡ a ∷ b ∷ c ∷ []) where
+    pub label-unread : (is_label_name a && not (clashes a (names_of x.labels.names)) && fits_table most_labels a (names_of x.labels.names) && is_number b && is_number c) ≡ false →
+        LineRead line x x None (λ v. read_label v (fields line))
+    unfolding view_of allow tables_read
+    label-unread t = unread (rw t at (label-shown (view_of x) e))
 
-  pub class-refused : {ws : List ℕ} → is_class_line s f (names_of s x.classes.names) ≡ false →
-      ClassRead s ws ws line x (record { read = false; state = x }) (λ v. read_class v (fields (text_at s line)))
-  unfolding view_of allow tables_read
-  class-refused {ws} test = record { answer = λ vs. class-tested w (view_of s ws vs x) false test; fine = after_line g; size = refl }
+    module _ (t : (is_label_name a && not (clashes a (names_of x.labels.names)) && fits_table most_labels a (names_of x.labels.names) && is_number b && is_number c) ≡ true) where
+      label-size : 3 ≤ length line
+      label-size =
+          let p = simp both_true at t in
+          omega (arith, three-size line e, (number c p.1).some)
 
-  pub label-refused : {ws : List ℕ} → is_label_line s f (names_of s x.labels.names) ≡ false →
-      LabelRead s ws ws line x (record { read = false; state = x }) (λ v. read_label v (fields (text_at s line)))
-  unfolding view_of allow tables_read
-  label-refused {ws} test = record { answer = λ vs. label-tested w (view_of s vs ws x) false test; fine = after_line g; size = refl }
+      pub label-linable : Linable a x.labels
+      label-linable =
+          let p = simp both_true at t in
+          record { fits = p.0.0.1; room = omega (arith, label-size, g.short) }
 
--- ---- a node line, an edge line
+      pub label-read : {u w : ℕ} (new : Tables) → u ≡ value_of b → w ≡ value_of c → tables_read new ≡ with_line a (pair u w) (tables_read x.labels) →
+          LineRead line x (record { section = x.section; opened = x.opened; classes = x.classes; labels = new; nodes = x.nodes; drawing = x.drawing }) (Some tt) (λ v. read_label v (fields line))
+      unfolding view_of allow with_labels tables_read
+      label-read {u = u} {w = w} new left right m =
+          let f = g.fine in
+          let p = simp both_true at t in
+          let h = fits-bound a (names_of x.labels.names) most_labels p.0.0.1 in
+          record {
+            answer = rw (m, left, right) (rw t at (label-shown (view_of x) e));
+            fine = record { classes = f.classes; labels = rw (names-after a _ x.labels new m) h; nodes = f.nodes; drawn = f.drawn; node_room = f.node_room; edge_room = f.edge_room };
+            count = omega (arith, label-size, lines-after a (pair u w) x.labels new m);
+          }
+
+-- ---- the drawing, with one node more or one edge more, where it has room
 
 -- the count and what is shown are within the ceiling at the same time
 nodes-room : (d : Drawing) → Roomy d → ltb (length (view d).nodes) most_nodes ≡ ltb d.n most_nodes
@@ -136,147 +140,236 @@ nodes-room d r = by (dec_lt d.n most_nodes)
     by (yes h) = ap (λ (n : ℕ). ltb n most_nodes) (sym (shown-nodes d r (omega arith)))
     by (no h) = rw (← full-nodes d r (omega arith), le-ltb d.n most_nodes (omega arith))
 
-edges_room : (d : Drawing) → Roomy d → ltb (length (view d).edges) most_edges ≡ ltb d.e most_edges
-edges_room d r = by (dec_lt d.e most_edges)
+edges-room : (d : Drawing) → Roomy d → ltb (length (view d).edges) most_edges ≡ ltb d.e most_edges
+edges-room d r = by (dec_lt d.e most_edges)
   where
     by : Dec (d.e < most_edges) → ltb (length (view d).edges) most_edges ≡ ltb d.e most_edges
     by (yes h) = ap (λ (n : ℕ). ltb n most_edges) (sym (shown-edges d r (omega arith)))
     by (no h) = rw (← full-edges d r (omega arith), le-ltb d.e most_edges (omega arith))
 
-module _ {s : List ℕ} {line : Span} {x : State} (g : Ready s line x) (r : Roomy x.drawing) where
-  module _ (p : Span) (i : Inside s p) (v : Node) (h : x.drawing.n < most_nodes) where
-    abbrev longer : State
-    longer = with_drawing (with_name x.nodes p) (with_node x.drawing v).drawing x
+line-drawn : {T : Type 0} (r : Result T Refusal) (d : Drawing) (l : Line) → line_of r d ≡ l → (is_accepted l.verdict ≡ is_ok r) × (d ≡ l.drawing)
+unfolding line_of
+line-drawn r d l e = (ap (λ m. is_accepted m.verdict) (sym e) ∙ accepts r, ap (λ m. m.drawing) e)
 
-    node-fits : Fine s (line.end + 1) longer
-    unfolding with_drawing with_name
-    node-fits =
-        let f = after_line g in
-        let room : x.nodes.n < most_labels = omega (arith, f.nodes.few) in
-        record {
-          section = f.section;
-          classes = f.classes;
-          labels = f.labels;
-          nodes = spans-longer f.nodes room p most_nodes (omega (arith, f.drawn)) i;
-          drawn = rw (node-added x.drawing v h, f.drawn);
-          lines = f.lines;
-        }
+node-left : (d : Drawing) (v : Node) → ltb d.n most_nodes ≡ false → (with_node d v).drawing ≡ d
+unfolding with_node line_where too_many
+node-left d v t = rw t
 
-    node-more : (ws vs : List ℕ) → view_of s ws vs longer ≡ add_node (text_at s p) v (view_of s ws vs x)
-    unfolding view_of with_drawing add_node more_nodes
-    node-more ws vs =
-        let room : x.nodes.n < most_labels = omega (arith, g.fine.nodes.few) in
-        rw (names-longer g.fine.nodes room p, view-node x.drawing v r h)
+edge-left : (d : Drawing) (v : Edge) → ltb d.e most_edges ≡ false → (with_edge d v).drawing ≡ d
+unfolding with_edge line_where too_many
+edge-left d v t = rw t
 
-  module _ (e : Edge) (h : x.drawing.e < most_edges) where
-    abbrev joined : State
-    joined = with_drawing x.nodes (with_edge x.drawing e).drawing x
+roomy-drawing : {x : State} → Fine x → Roomy x.drawing
+roomy-drawing f = record { nodes = f.node_room; edges = f.edge_room }
 
-    edge-fits : Fine s (line.end + 1) joined
-    unfolding with_drawing
-    edge-fits =
-        let f = after_line g in
-        record { section = f.section; classes = f.classes; labels = f.labels; nodes = f.nodes; drawn = rw (edge-added x.drawing e h) f.drawn; lines = f.lines }
+-- ---- a node line
 
-    edge_more : (ws vs : List ℕ) → view_of s ws vs joined ≡ add_edge e (view_of s ws vs x)
-    unfolding view_of with_drawing add_edge more_edges
-    edge_more ws vs = rw (view-edge x.drawing e r h)
+module _ {line : List ℕ} {x : State} (g : Ready line x) {a b c d : List ℕ} (e : fields line ≡ a ∷ b ∷ c ∷ d ∷ []) where
+  abbrev classes : List (List ℕ)
+  classes = names_of x.classes.names
 
-  -- fields that are right: the drawing decides whether there is room
-  module _ {f : Fields} (w : Fielded s line f) where
-    pub node-read : {r' : Step} → is_node_line s f (names_of s x.classes.names) (names_of s x.nodes) ≡ true →
-        r' ≡ node_step x f.first (with_node x.drawing (node (find (text_at s f.second) (names_of s x.classes.names)) (value_of (text_at s f.third)) (number_or_any (text_at s f.fourth)))) →
-        OtherRead s line x r' (λ v. read_node v (fields (text_at s line)))
-    unfolding node_step step_by allow view_of tables_read
-    node-read test made = rw (made, node-accepted) (by (ltb x.drawing.n most_nodes) refl)
-      where
-        v : Node
-        v = node (find (text_at s f.second) (names_of s x.classes.names)) (value_of (text_at s f.third)) (number_or_any (text_at s f.fourth))
+  pub class-unknown : known b classes ≡ false → LineRead line x x None (λ v. read_node v (fields line))
+  unfolding view_of allow tables_read
+  class-unknown k = unread g (rw (k, and-false) at (node-shown (view_of x) e))
 
-        by : (b : Bool) → ltb x.drawing.n most_nodes ≡ b →
-            OtherRead s line x (step_by b (with_drawing (with_name x.nodes f.first) (with_node x.drawing v).drawing x) x) (λ v. read_node v (fields (text_at s line)))
-        by true e =
-            let h = ltb-true x.drawing.n most_nodes e in
-            record {
-              answer = λ ws vs. ap (allow true) (node-more f.first w.within.first v h ws vs) ∙ (rw (nodes-room x.drawing r, e) at (node-tested w (view_of s ws vs x) true test));
-              fine = node-fits f.first w.within.first v h;
-            }
-        by false e = record { answer = λ ws vs. rw (nodes-room x.drawing r, e) at (node-tested w (view_of s ws vs x) true test); fine = after_line g }
+  module _ (k : known b classes ≡ true) where
+    pub node-unread : (is_name a && not (known a (names_of x.nodes)) && is_number c && is_number_or_dash d) ≡ false → LineRead line x x None (λ v. read_node v (fields line))
+    unfolding view_of allow tables_read
+    node-unread t = unread g (rw (k, and-true, t) at (node-shown (view_of x) e))
 
-    pub edge-read : {r' : Step} → (eqb f.count 3 && known (text_at s f.first) (names_of s x.labels.names)
-        && known (text_at s f.second) (names_of s x.nodes) && known (text_at s f.third) (names_of s x.nodes)) ≡ true →
-        r' ≡ edge_step x (with_edge x.drawing (edge (find (text_at s f.first) (names_of s x.labels.names)) (find (text_at s f.second) (names_of s x.nodes)) (find (text_at s f.third) (names_of s x.nodes)))) →
-        OtherRead s line x r' (λ v. read_edge v (fields (text_at s line)))
-    unfolding edge_step step_by allow view_of tables_read
-    edge-read test made = rw (made, edge-accepted) (by (ltb x.drawing.e most_edges) refl)
-      where
-        v : Edge
-        v = edge (find (text_at s f.first) (names_of s x.labels.names)) (find (text_at s f.second) (names_of s x.nodes)) (find (text_at s f.third) (names_of s x.nodes))
+    module _ (t : (is_name a && not (known a (names_of x.nodes)) && is_number c && is_number_or_dash d) ≡ true) where
+      abbrev v : Node
+      v = node (find b classes) (value_of c) (number_or_any d)
 
-        by : (b : Bool) → ltb x.drawing.e most_edges ≡ b →
-            OtherRead s line x (step_by b (with_drawing x.nodes (with_edge x.drawing v).drawing x) x) (λ v. read_edge v (fields (text_at s line)))
-        by true e =
-            let h = ltb-true x.drawing.e most_edges e in
-            record {
-              answer = λ ws vs. ap (allow true) (edge_more v h ws vs) ∙ (rw (edges_room x.drawing r, e) at (edge-tested w (view_of s ws vs x) true test));
-              fine = edge-fits v h;
-            }
-        by false e = record { answer = λ ws vs. rw (edges_room x.drawing r, e) at (edge-tested w (view_of s ws vs x) true test); fine = after_line g }
+      shown : allow (ltb x.drawing.n most_nodes) (add_node a v (view_of x)) ≡ read_node (view_of x) (fields line)
+      unfolding view_of tables_read
+      shown = rw (k, and-true, t, nodes-room x.drawing (roomy-drawing g.fine)) at (node-shown (view_of x) e)
 
--- a line that is none
-pub other-refused : {s : List ℕ} {line : Span} {x : State} {read : Reading → Option Reading} → Ready s line x → ((ws vs : List ℕ) → allow false (view_of s ws vs x) ≡ read (view_of s ws vs x)) →
-    OtherRead s line x (record { read = false; state = x }) read
-other-refused g h = record { answer = h; fine = after_line g }
+      pub node-refused : {T : Type 0} (r : Result T Refusal) (n : Drawing) → line_of r n ≡ with_node x.drawing v → is_ok r ≡ false →
+          LineRead line x (record { section = x.section; opened = x.opened; classes = x.classes; labels = x.labels; nodes = x.nodes; drawing = n }) None (λ v. read_node v (fields line))
+      unfolding allow
+      node-refused r n m o =
+          let p = line-drawn r n _ m in
+          let full : ltb x.drawing.n most_nodes ≡ false = sym (node-accepted x.drawing v) ∙ p.0 ∙ o in
+          rw (p.1, node-left x.drawing v full) (unread g (rw full at shown))
+
+      pub node-read : {T : Type 0} (r : Result T Refusal) (n : Drawing) (names : Names) → line_of r n ≡ with_node x.drawing v → is_ok r ≡ true → names_of names ≡ names_of x.nodes ++ (a ∷ []) →
+          LineRead line x (record { section = x.section; opened = x.opened; classes = x.classes; labels = x.labels; nodes = names; drawing = n }) (Some tt) (λ v. read_node v (fields line))
+      unfolding allow view_of add_node more_nodes
+      node-read r n names m o l =
+          let f = g.fine in
+          let p = line-drawn r n _ m in
+          let room : ltb x.drawing.n most_nodes ≡ true = sym (node-accepted x.drawing v) ∙ p.0 ∙ o in
+          let h = ltb-true x.drawing.n most_nodes room in
+          let w = node-roomy x.drawing v (roomy-drawing f) in
+          let s = length-append (names_of x.nodes) (a ∷ []) in
+          let count : n.n ≡ x.drawing.n + 1 = ap (λ d. d.n) (p.1 ∙ node-added x.drawing v h) in
+          record {
+            answer = rw (p.1, l, view-node x.drawing v (roomy-drawing f) h) (rw room at shown);
+            fine = record {
+              classes = f.classes;
+              labels = f.labels;
+              nodes = rw l (omega (arith, f.drawn));
+              drawn = rw l (omega (arith, f.drawn));
+              node_room = rw p.1 w.nodes;
+              edge_room = rw p.1 w.edges;
+            };
+            count = omega arith;
+          }
+
+-- ---- an edge line
+
+module _ {line : List ℕ} {x : State} (g : Ready line x) {a b c : List ℕ} (e : fields line ≡ a ∷ b ∷ c ∷ []) where
+  abbrev labels : List (List ℕ)
+  labels = names_of x.labels.names
+
+  abbrev nodes : List (List ℕ)
+  nodes = names_of x.nodes
+
+  pub label-unknown : known a labels ≡ false → LineRead line x x None (λ v. read_edge v (fields line))
+  unfolding view_of allow tables_read
+  label-unknown k = unread g (rw k at (edge-shown (view_of x) e))
+
+  module _ (k : known a labels ≡ true) where
+    pub source-unknown : known b nodes ≡ false → LineRead line x x None (λ v. read_edge v (fields line))
+    unfolding view_of allow tables_read
+    source-unknown l = unread g (rw (k, l) at (edge-shown (view_of x) e))
+
+    module _ (l : known b nodes ≡ true) where
+      pub target-unknown : known c nodes ≡ false → LineRead line x x None (λ v. read_edge v (fields line))
+      unfolding view_of allow tables_read
+      target-unknown m = unread g (rw (k, l, m) at (edge-shown (view_of x) e))
+
+      module _ (t : known c nodes ≡ true) where
+        abbrev line-edge : Edge
+        line-edge = edge (find a labels) (find b nodes) (find c nodes)
+
+        joined : allow (ltb x.drawing.e most_edges) (add_edge line-edge (view_of x)) ≡ read_edge (view_of x) (fields line)
+        unfolding view_of tables_read
+        joined = rw (k, l, t, edges-room x.drawing (roomy-drawing g.fine)) at (edge-shown (view_of x) e)
+
+        pub edge-read : {T : Type 0} (r : Result T Refusal) (n : Drawing) → line_of r n ≡ with_edge x.drawing line-edge → (o : Maybe (Unit {0})) → is_some o ≡ is_ok r →
+            LineRead line x (record { section = x.section; opened = x.opened; classes = x.classes; labels = x.labels; nodes = x.nodes; drawing = n }) o (λ v. read_edge v (fields line))
+        unfolding view_of add_edge view allow more_edges
+        edge-read r n m o q = by (ltb x.drawing.e most_edges) refl
+          where
+            f : Fine x
+            f = g.fine
+
+            p : (is_accepted (with_edge x.drawing line-edge).verdict ≡ is_ok r) × (n ≡ (with_edge x.drawing line-edge).drawing)
+            p = line-drawn r n _ m
+
+            same : is_some o ≡ ltb x.drawing.e most_edges
+            same = q ∙ sym p.0 ∙ edge-accepted x.drawing line-edge
+
+            by : (b : Bool) → ltb x.drawing.e most_edges ≡ b →
+                LineRead line x (record { section = x.section; opened = x.opened; classes = x.classes; labels = x.labels; nodes = x.nodes; drawing = n }) o (λ v. read_edge v (fields line))
+            by true t =
+                let h = ltb-true x.drawing.e most_edges t in
+                let w = edge-roomy x.drawing line-edge (roomy-drawing f) in
+                let count : n.n ≡ x.drawing.n = ap (λ d. d.n) (p.1 ∙ edge-added x.drawing line-edge h) in
+                record {
+                  answer = rw (same, t, p.1, view-edge x.drawing line-edge (roomy-drawing f) h) (rw t at joined);
+                  fine = record { classes = f.classes; labels = f.labels; nodes = f.nodes; drawn = count ∙ f.drawn; node_room = rw p.1 w.nodes; edge_room = rw p.1 w.edges };
+                  count = omega arith;
+                }
+            by false t =
+                let z : n ≡ x.drawing = p.1 ∙ edge-left x.drawing line-edge t in
+                record {
+                  answer = rw (same, t) (rw t at joined);
+                  fine = rw z f;
+                  count = omega arith;
+                }
 
 -- ---- lines that touch no values
 
-module _ {s : List ℕ} {line : Span} {x : State} (g : Ready s line x) where
-  turned-fine : (k : ℕ) (o : Bool) → k ≤ 3 → Fine s (line.end + 1) (turned k o x)
-  unfolding turned
-  turned-fine k o h = let f = after_line g in record { section = h; classes = f.classes; labels = f.labels; nodes = f.nodes; drawn = f.drawn; lines = f.lines }
+pub is-last : (k : Section) → sameb the_type k Edges ≡ eqb (number_of k) 3
+is-last Classes = refl
+is-last Labels = refl
+is-last Nodes = refl
+is-last Edges = refl
 
-  pub header_read : same (text_at s line) (get_or headers x.section []) ≡ true →
-      OtherRead s line x
-      (record { read = true; state = record { section = x.section; opened = true; classes = x.classes; labels = x.labels; nodes = x.nodes; drawing = x.drawing } })
-      (λ v. read_header v (text_at s line))
-  unfolding view_of allow turn_to turned
-  header_read t = record {
-    answer = λ ws vs. header-tested (view_of s ws vs x) (text_at s line) true t;
-    fine = turned-fine x.section true g.fine.section;
-  }
+section-small : (k : Section) → number_of k ≤ 3
+section-small Classes = omega arith
+section-small Labels = omega arith
+section-small Nodes = omega arith
+section-small Edges = omega arith
 
-  pub header_refused : same (text_at s line) (get_or headers x.section []) ≡ false → OtherRead s line x (record { read = false; state = x }) (λ v. read_header v (text_at s line))
+module _ {line : List ℕ} {x : State} (g : Ready line x) where
+  pub header-read : same line (get_or headers (number_of x.section) []) ≡ true →
+      LineRead line x (record { section = x.section; opened = true; classes = x.classes; labels = x.labels; nodes = x.nodes; drawing = x.drawing }) (Some tt) (λ v. read_header v line)
+  unfolding view_of allow turn_to
+  header-read t =
+      let f = g.fine in
+      record {
+        answer = header-tested (view_of x) line true t;
+        fine = record { classes = f.classes; labels = f.labels; nodes = f.nodes; drawn = f.drawn; node_room = f.node_room; edge_room = f.edge_room };
+        count = omega arith;
+      }
+
+  pub header-refused : same line (get_or headers (number_of x.section) []) ≡ false → LineRead line x x None (λ v. read_header v line)
   unfolding view_of allow
-  header_refused t = other-refused g (λ ws vs. header-tested (view_of s ws vs x) (text_at s line) false t)
+  header-refused t = unread g (header-tested (view_of x) line false t)
 
-  ended : (ws vs : List ℕ) (b : Bool) → ltb x.section 3 ≡ b → allow b (view_of s ws vs (turned (x.section + 1) false x)) ≡ end_section (view_of s ws vs x)
-  unfolding end_section view_of turned turn_to
-  ended ws vs b t = rw t
-
-  not-ended : (ws vs : List ℕ) → ltb x.section 3 ≡ false → allow false (view_of s ws vs x) ≡ end_section (view_of s ws vs x)
+  pub last-section : number_of x.section ≡ 3 → LineRead line x x None end_section
   unfolding end_section view_of allow
-  not-ended ws vs t = rw t
+  last-section t = unread g (rw t)
 
-  pub section-ended : OtherRead s line x (end_step x) end_section
-  unfolding end_step step_by
-  section-ended = by (ltb x.section 3) refl
-    where
-      by : (b : Bool) → ltb x.section 3 ≡ b → OtherRead s line x (step_by b (turned (x.section + 1) false x) x) end_section
-      by true t = record { answer = λ ws vs. ended ws vs true t; fine = turned-fine (x.section + 1) false (omega (arith, ltb-true x.section 3 t)) }
-      by false t = record { answer = λ ws vs. not-ended ws vs t; fine = after_line g }
+  pub section-ended : (k : Section) → number_of k ≡ number_of x.section + 1 →
+      LineRead line x (record { section = k; opened = false; classes = x.classes; labels = x.labels; nodes = x.nodes; drawing = x.drawing }) (Some tt) end_section
+  unfolding end_section view_of turn_to
+  section-ended k e =
+      let s = section-small k in
+      record {
+        answer = rw (lt-ltb (number_of x.section) 3 (omega arith), e);
+        fine = record { classes = g.fine.classes; labels = g.fine.labels; nodes = g.fine.nodes; drawn = g.fine.drawn; node_room = g.fine.node_room; edge_room = g.fine.edge_room };
+        count = omega arith;
+      }
 
 -- ---- any line
 
-module _ {s : List ℕ} {line : Span} {x : State} {r : Step} {read : Reading → Option Reading} where
-  pub of-class : {ws ws' : List ℕ} (vs : List ℕ) → ClassRead s ws ws' line x r read → LineRead s ws ws' vs vs line x r read
-  of-class vs c = record { answer = c.answer vs; fine = c.fine; class_size = c.size; label_size = refl }
+pub read_as : {line : List ℕ} {x y : State} {r : Maybe (Unit {0})} {reads reads' : Reading → Option Reading} → LineRead line x y r reads → reads (view_of x) ≡ reads' (view_of x) → LineRead line x y r reads'
+read_as c h = record { answer = c.answer ∙ h; fine = c.fine; count = c.count }
 
-  pub of-label : {vs vs' : List ℕ} (ws : List ℕ) → LabelRead s vs vs' line x r read → LineRead s ws ws vs vs' line x r read
-  of-label ws c = record { answer = c.answer ws; fine = c.fine; class_size = refl; label_size = c.size }
+-- the line of values of a section
+pub by-section : {line : List ℕ} {x y : State} {r : Maybe (Unit {0})} (k : Section) → x.section ≡ k →
+    LineRead line x y r (λ v. get_or (read_class ∷ read_label ∷ read_node ∷ read_edge ∷ []) (number_of k) (λ x y. none) v (fields line)) → LineRead line x y r (λ v. read_values v (fields line))
+unfolding view_of
+by-section {line} {x} k e c = read_as c (values_of (view_of x) (fields line) (number_of k) (ap number_of e))
 
-  pub of_other : (ws vs : List ℕ) → OtherRead s line x r read → LineRead s ws ws vs vs line x r read
-  of_other ws vs c = record { answer = c.answer ws vs; fine = c.fine; class_size = refl; label_size = refl }
+module _ {line : List ℕ} {x y : State} {r : Maybe (Unit {0})} where
+  pub from-header : x.opened ≡ false → LineRead line x y r (λ v. read_header v line) → LineRead line x y r (λ v. read_line v line)
+  unfolding view_of
+  from-header o c = read_as c (header-first (view_of x) line o)
 
-  pub read_as : {ws ws' vs vs' : List ℕ} {read' : Reading → Option Reading} → LineRead s ws ws' vs vs' line x r read → read (view_of s ws vs x) ≡ read' (view_of s ws vs x) →
-      LineRead s ws ws' vs vs' line x r read'
-  read_as c h = record { answer = c.answer ∙ h; fine = c.fine; class_size = c.class_size; label_size = c.label_size }
+  pub from-end : x.opened ≡ true → length line ≡ 0 → LineRead line x y r end_section → LineRead line x y r (λ v. read_line v line)
+  unfolding view_of
+  from-end o h c = read_as c (line-of-end (view_of x) o line h)
+
+  pub from-values : x.opened ≡ true → (length line ≡ 0 → ⊥) → LineRead line x y r (λ v. read_values v (fields line)) → LineRead line x y r (λ v. read_line v line)
+  unfolding view_of
+  from-values o h c = read_as c (line-of-values (view_of x) o line h)
+
+-- ---- the state before the first line
+
+names-none : (t : Tables) → tables_read t ≡ nothing_read → names_of t.names ≡ []
+unfolding tables_read
+names-none t h = ap (λ t. t.names) h
+
+pub empty-state : (x : State) → number_of x.section ≡ 0 → x.opened ≡ false → tables_read x.classes ≡ nothing_read → tables_read x.labels ≡ nothing_read → names_of x.nodes ≡ [] → x.drawing ≡ empty_drawing →
+    Empty x
+unfolding view_of nothing
+empty-state x a b c d e f =
+    let names : names_of x.classes.names ≡ [] = names-none x.classes c in
+    let others : names_of x.labels.names ≡ [] = names-none x.labels d in
+    record {
+      shows = rw (a, b, c, d, e, f, view-empty);
+      fine = record {
+        classes = rw names (omega arith);
+        labels = rw others (omega arith);
+        nodes = rw e (omega arith);
+        drawn = rw (e, f) empty-counts.0;
+        node_room = rw f empty-roomy.nodes;
+        edge_room = rw f empty-roomy.edges;
+      };
+    }

@@ -7,17 +7,13 @@ use Rattle.std.proofs.Math.Option.{Option, none, some}
 use Rattle.limits.specs.Limits.{most_classes, most_labels, most_nodes, most_edges}
 use Rattle.tables.specs.Order.{pair}
 use Rattle.tables.specs.declared.Pair.{Pair}
+use Rattle.sheet_lines.specs.declared.Entry.{Entry}
 use Rattle.drawing.specs.declared.Node.{Node}
 use Rattle.drawing.specs.declared.Edge.{Edge}
 use Rattle.drawing.specs.Drawing.{Pattern, node, edge}
 use Rattle.sheet_text.specs.Text.{bytes, fields, is_name, is_number, value_of, same, find, known, is_number_or_dash, number_or_any, is_label_name, clashes}
 
 -- ---- what has been read
-
--- a line of a class or label: the number of its table, and its pair
-pub record Entry : Type 0 where
-  pub table : ℕ
-  pub entry : Pair
 
 -- the names of the classes, or of the labels, by number, and their lines in order
 pub record Named : Type 0 where

@@ -1,13 +1,13 @@
 -- Lines: a line, field by field, and the line of a refusal.
 --
 -- In order: what is left of a line; the line of a refusal. Assumes nothing.
-use Prim.Native.Nat.{ℕ, ◌+◌, ◌≤◌}
+use Prim.Native.Nat.{ℕ, ◌+◌}
 use native.Mathlib.Omega.{arith}
 use mathlib.Core.Path.{◌≡◌, refl, ap, ◌∙◌}
 use mathlib.Core.Bool.{Bool, true, false}
 use mathlib.Core.List.{List, [], ◌∷◌, ◌++◌, append_assoc}
 use lib.Dec.{eqb}
-use borrow.Author.Tests.{eq-eqb, ne_eqb}
+use borrow.Author.Tests.{ne_eqb}
 use Rattle.answers.specs.Verdict.{Verdict, Says}
 use Rattle.sheet_text.specs.Text.{bytes, digits}
 use Rattle.sheet_listing.specs.Listing.{line, refusal}
@@ -38,12 +38,9 @@ pub line-end : (first : Bool) → line_from first [] ≡ 10 ∷ []
 unfolding line_from
 line-end first = refl
 
--- the same of a row that starts at a, of which the words from i on are left
-pub row-whole : (a : ℕ) (fs : List (List ℕ)) → line fs ≡ line_from (eqb a a) fs
-row-whole a fs = rw (eq-eqb a a refl) (line-whole fs)
-
-pub row_next : (a i : ℕ) → a ≤ i → (f : List ℕ) (fs : List (List ℕ)) → line_from (eqb i a) (f ∷ fs) ≡ (gap (eqb i a) ++ f) ++ line_from (eqb (i + 1) a) fs
-row_next a i h f fs = line-next (eqb i a) f fs ∙ ap (λ (b : Bool). (gap (eqb i a) ++ f) ++ line_from b fs) (rw (ne_eqb (i + 1) a (λ z. omega arith)))
+-- the same by the number of the field
+pub field-next : (i : ℕ) (f : List ℕ) (fs : List (List ℕ)) → line_from (eqb i 0) (f ∷ fs) ≡ (gap (eqb i 0) ++ f) ++ line_from (eqb (i + 1) 0) fs
+field-next i f fs = line-next (eqb i 0) f fs ∙ ap (λ (b : Bool). (gap (eqb i 0) ++ f) ++ line_from b fs) (rw (ne_eqb (i + 1) 0 (λ z. omega arith)))
 
 -- ---- the line of a refusal
 

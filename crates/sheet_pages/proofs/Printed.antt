@@ -4,7 +4,6 @@
 use Prim.Native.Nat.{ℕ, suc, ◌*◌, ◌≤◌}
 use native.Mathlib.Omega.{arith}
 use native.Mathlib.Nat.{mul-suc}
-use mathlib.Core.Bool.{true, false}
 use mathlib.Core.Path.{◌≡◌, refl, sym, ap, ◌∙◌}
 use mathlib.Core.List.{List}
 use lib.Dec.{leb}
@@ -13,11 +12,12 @@ use lib.Seq.{take-append_seam}
 use borrow.Author.Tests.{le-leb}
 use Rattle.limits.specs.Limits.{sheet_rows}
 use Rattle.answers.specs.Verdict.{Verdict, accepted, refused, unless, ◌then◌, is_accepted}
-use Rattle.answers.specs.Answers.{verdict_of}
-use Rattle.answers.proofs.Verdict.{accepted-is}
+use Rattle.answers.specs.Answers.{verdict_of, refusal_of}
 use Rattle.drawing.specs.Drawing.{Pattern}
 use Rattle.drawing.specs.Embeddings.{rows}
-use Rattle.query_rows.specs.declared.Given.{Given}
+use Rattle.std.specs.Prelude.{Result, Ok, Err}
+use Rattle.answers.specs.declared.Refusal.{Refusal}
+use Rattle.answers.proofs.Refusing.{refuses}
 use Rattle.query_answer.specs.Query.{pick_count}
 use Rattle.sheet_reader.specs.Sheet.{Outcome, read_sheet, feed_of}
 use Rattle.sheet_listing.specs.Listing.{Listed, refusal, listed, listed_in}
@@ -61,32 +61,33 @@ module _ (sheet before : List ℕ) (room : longest_pages ≤ length before) wher
   unfolding sheet_pages
   given_is = rw fits
 
-  module _ {after : List ℕ} {r : Given} (g : Gives (sheet_pages sheet before) after r) where
-    verdict-is : verdict_of r.answer ≡ check_outcome (read_sheet sheet)
-    verdict-is = g.verdict ∙ rw given_is (paged-verdict _ _ before)
+  module _ {after : List ℕ} where
+    verdict-is : {r : Result ℕ Refusal} → Gives (sheet_pages sheet before) after r → verdict_of r ≡ check_outcome (read_sheet sheet)
+    verdict-is g = g.verdict ∙ rw given_is (paged-verdict _ _ before)
 
     -- ---- the pages, and the line of a refusal
 
-    module _ (t : is_accepted (verdict_of r.answer) ≡ true) where
+    module _ {n : ℕ} (g : Gives (sheet_pages sheet before) after (Ok n)) where
       accepts : check_outcome (read_sheet sheet) ≡ accepted
-      accepts = sym verdict-is ∙ accepted-is _ t
+      unfolding verdict_of
+      accepts = sym (verdict-is g)
 
       whole-given : sheet_pages sheet before ≡ paged accepted (outcome_pages (read_sheet sheet)) before
       whole-given = given_is ∙ rw accepts
 
-      pub pages-inside : r.extent ≤ length before
+      pub pages-inside : n ≤ length before
       pages-inside =
-          let n : r.extent ≡ length (outcome_pages (read_sheet sheet)) = g.length' ∙ rw whole-given (paged-length (outcome_pages (read_sheet sheet)) before) in
+          let m : n ≡ length (outcome_pages (read_sheet sheet)) = g.length' ∙ rw whole-given (paged-length (outcome_pages (read_sheet sheet)) before) in
           let l = longest (sheet-few sheet) accepts in
           omega arith
 
-      pub pages-printed : take r.extent after ≡ printed_pages sheet
+      pub pages-printed : take n after ≡ printed_pages sheet
       unfolding printed_pages is_accepted
       pages-printed = rw (g.length', g.buffer, whole-given, paged-back, accepts)
 
-    pub refusal-printed : is_accepted (verdict_of r.answer) ≡ false → refusal (verdict_of r.answer) ≡ printed_pages sheet
-    unfolding printed_pages
-    refusal-printed t = let f = sym (ap is_accepted verdict-is) ∙ t in rw (verdict-is, f)
+    pub refusal-printed : {x : Refusal} → Gives (sheet_pages sheet before) after (Err x) → refusal (refusal_of x) ≡ printed_pages sheet
+    unfolding printed_pages verdict_of
+    refusal-printed {x} g = let v = verdict-is g in let f = sym (ap is_accepted v) ∙ refuses x in rw (v, f)
 
 -- the line of a refusal in a buffer of that length
 pub refusal-listed : (v : Verdict) (before : List ℕ) {after : List ℕ} {r : ℕ} → longest_pages ≤ length before → listed r after ≡ listed_in (refusal v) before → (r ≤ length before) × (take r after ≡ refusal v)

@@ -1,53 +1,27 @@
 -- Grouping: the lines of a table among the lines of all, from a line on, the tables from a number on, and the labels.
 --
--- In order: the lines from one on; those of a table; the tables from one on; the labels from one on. Assumes nothing.
-use mathlib.Core.Path.{◌≡◌, ◌∙◌}
+-- In order: the lines of a table; the tables from one on; the labels from one on. Assumes nothing.
+use mathlib.Core.Path.{◌≡◌, refl, ◌∙◌, sym, ap}
+use mathlib.Core.Bool.{Bool, cond}
 use mathlib.Core.List.{List, [], ◌∷◌, map}
-use Prim.Native.Nat.{ℕ, suc, ◌+◌, ◌*◌, ◌-◌, ◌<◌, ◌≤◌}
+use Prim.Native.Nat.{ℕ, suc, ◌+◌, ◌-◌, ◌<◌, ◌≤◌}
 use native.Mathlib.Omega.{arith}
+use native.Mathlib.Numerals.{add-one}
 use borrow.Author.Tests.{eq-eqb, ne_eqb}
-use lib.ListN.{length, get_or, take, drop}
+use lib.Dec.{eqb}
+use lib.ListN.{length, get_or, drop, drop_of_length-le, length-map, length-drop}
+use Rattle.std.specs.List.{filter}
+use Rattle.tables.proofs.Members.{length-keep, length-placed}
+use lib.Seq.{drop-cons}
 use Rattle.tables.specs.Lists.{keep, count, below, placed}
-use Rattle.limits.specs.Limits.{most_labels}
-use Rattle.tables.specs.Order.{Table, pair}
-use Rattle.feed.specs.Feed.{Label}
-use Rattle.drawing.proofs.Encoding.{left-next}
-use Rattle.sheet_text.specs.inner.Parts.{span, text_at, Spans}
-use Rattle.sheet_text.proofs.Spans.{names_from, names-all, names_more, names-done}
-use Rattle.sheet_lines.specs.declared.Tables.{Tables}
-use Rattle.sheet_lines.specs.Reading.{Entry}
-use Rattle.sheet_lines.specs.inner.State.{entry, entries_of, entries, tables_read}
-use Rattle.sheet_reader.specs.Sheet.{lines_of, grouped, label_of, labels_of}
-use Rattle.sheet_reader.specs.inner.Answers.{labels_in}
+use Rattle.tables.specs.Order.{Table}
+use denote.Ref.{Bor}
+use Rattle.sheet_text.specs.inner.Parts.{texts}
+use Rattle.sheet_text.proofs.Finding.{text-at}
+use Rattle.sheet_lines.specs.declared.Entry.{Entry}
+use Rattle.sheet_reader.specs.Sheet.{lines_of, grouped, label_of}
 
--- ---- the lines from one on
-
-three-words : (ws : List ℕ) (j : ℕ) → j + 2 < length ws → drop j ws ≡ get_or ws j 0 ∷ get_or ws (j + 1) 0 ∷ get_or ws (j + 2) 0 ∷ drop (j + 3) ws
-three-words ws j h =
-    let z : j + 1 + 1 ≡ j + 2 = omega arith in
-    let y : j + 2 + 1 ≡ j + 3 = omega arith in
-    left-next ws j 0 (omega arith) ∙ rw (left-next ws (j + 1) 0 (omega arith), z, left-next ws (j + 2) 0 h, y)
-
-pub entries_from : List ℕ → ℕ → ℕ → List Entry
-entries_from ws n i = entries_of (take (3 * (n - i)) (drop (3 * i) ws))
-
-module _ (ws : List ℕ) (n : ℕ) (room : 3 * n ≤ length ws) where
-  pub entries-all : entries_from ws n 0 ≡ entries ws n
-  unfolding entries_from entries
-  entries-all = let z : n - 0 ≡ n = omega arith in rw z
-
-  pub entries-more : (i : ℕ) → i < n → entries_from ws n i ≡ entry (get_or ws (3 * i) 0) (get_or ws (3 * i + 1) 0) (get_or ws (3 * i + 2) 0) ∷ entries_from ws n (i + 1)
-  unfolding entries_from entries_of
-  entries-more i h =
-      let e : 3 * (n - i) ≡ suc (suc (suc (3 * (n - (i + 1))))) = omega arith in
-      let f : 3 * (i + 1) ≡ 3 * i + 3 = omega arith in
-      rw (e, f, three-words ws (3 * i) (omega arith))
-
-  pub entries-done : (i : ℕ) → n ≤ i → entries_from ws n i ≡ []
-  unfolding entries_from entries_of
-  entries-done i h = let e : 3 * (n - i) ≡ 0 = omega arith in rw e
-
--- ---- those of a table
+-- ---- the lines of a table
 
 module _ (k : ℕ) (x : Entry) (xs : List Entry) where
   pub line-in : x.table ≡ k → lines_of k (x ∷ xs) ≡ x.entry ∷ lines_of k xs
@@ -58,27 +32,39 @@ module _ (k : ℕ) (x : Entry) (xs : List Entry) where
   unfolding lines_of keep
   line-out d = rw (ne_eqb x.table k d)
 
--- the lines of table k, from line i on
-pub lines_from : List ℕ → ℕ → ℕ → ℕ → Table
-lines_from ws n k i = lines_of k (entries_from ws n i)
+filter-keep : (p : Entry → Bool) (es : List Entry) → filter p es ≡ keep p es
+unfolding keep
+filter-keep p [] = refl
+filter-keep p (x ∷ es) = ap (λ r. cond (p x) (x ∷ r) r) (filter-keep p es)
 
-module _ (ws : List ℕ) (n : ℕ) (room : 3 * n ≤ length ws) (k : ℕ) where
-  pub lines-all : lines_from ws n k 0 ≡ lines_of k (entries ws n)
-  unfolding lines_from
-  lines-all = rw (entries-all ws n room)
+pub filtered : (k : ℕ) (es : List Entry) → length (filter (λ x. eqb x.table k) es) ≡ length (lines_of k es)
+unfolding lines_of
+filtered k es = ap length (filter-keep (λ x. eqb x.table k) es) ∙ sym (length-map (keep (λ x. eqb x.table k) es) (λ x. x.entry))
 
-  pub lines-in : (i : ℕ) → i < n → get_or ws (3 * i) 0 ≡ k →
-      lines_from ws n k i ≡ pair (get_or ws (3 * i + 1) 0) (get_or ws (3 * i + 2) 0) ∷ lines_from ws n k (i + 1)
-  unfolding lines_from
-  lines-in i h e = rw (entries-more ws n room i h) (line-in k _ _ e)
+pub lines-few : (k : ℕ) (es : List Entry) → length (lines_of k es) ≤ length es
+unfolding lines_of
+lines-few k es = let l = length-keep (λ x. eqb x.table k) es in let m = length-map (keep (λ x. eqb x.table k) es) (λ x. x.entry) in omega arith
 
-  pub lines-out : (i : ℕ) → i < n → (get_or ws (3 * i) 0 ≡ k → ⊥) → lines_from ws n k i ≡ lines_from ws n k (i + 1)
-  unfolding lines_from
-  lines-out i h d = rw (entries-more ws n room i h) (line-out k _ _ d)
+pub left-next : {A : Type 0} (xs : List A) (i : ℕ) (d : A) → i < length xs → drop i xs ≡ get_or xs i d ∷ drop (i + 1) xs
+left-next xs i d h = rw (add-one i) (drop-cons xs i d h)
 
-  pub lines-done : (i : ℕ) → n ≤ i → lines_from ws n k i ≡ []
-  unfolding lines_from lines_of keep
-  lines-done i h = rw (entries-done ws n room i h)
+pub left-none : {A : Type 0} (xs : List A) (i : ℕ) → length xs ≤ i → drop i xs ≡ []
+left-none xs i h = drop_of_length-le xs {i = i} h
+
+-- the lines from number i on
+abbrev no_entry : Entry
+no_entry = record { table = 0; entry = record { left = 0; right = 0 } }
+
+module _ (k : ℕ) (es : List Entry) (i : ℕ) where
+  pub lines-in : i < length es → (get_or es i no_entry).table ≡ k → lines_of k (drop i es) ≡ (get_or es i no_entry).entry ∷ lines_of k (drop (i + 1) es)
+  lines-in h e = rw (left-next es i no_entry h) (line-in k _ _ e)
+
+  pub lines-out : i < length es → ((get_or es i no_entry).table ≡ k → ⊥) → lines_of k (drop i es) ≡ lines_of k (drop (i + 1) es)
+  lines-out h d = rw (left-next es i no_entry h) (line-out k _ _ d)
+
+  pub lines-done : length es ≤ i → lines_of k (drop i es) ≡ []
+  unfolding lines_of keep
+  lines-done h = rw (left-none es i h)
 
 -- ---- the tables from one on
 
@@ -100,19 +86,19 @@ module _ (es : List Entry) (n : ℕ) where
 
 -- ---- the labels from one on
 
-pub labels_from : List ℕ → List ℕ → Tables → ℕ → List Label
-labels_from s ws t k = placed (label_of (entries ws t.lines)) k (names_from s t.names k)
+module _ (es : List Entry) (xs : List (Bor (List ℕ))) (k : ℕ) where
+  pub labels-more : (d : Bor (List ℕ)) → k < length xs →
+      placed (label_of es) k (drop k (texts xs)) ≡ label_of es k (get_or xs k d).now ∷ placed (label_of es) (k + 1) (drop (k + 1) (texts xs))
+  unfolding placed
+  labels-more d h =
+      let l = length-map xs (λ x. x.now) in
+      rw (left-next (texts xs) k d.now (omega arith), text-at xs k d)
 
-module _ (s ws : List ℕ) (t : Tables) where
-  pub labels-all : labels_from s ws t 0 ≡ labels_in s ws t
-  unfolding labels_from labels_in labels_of tables_read
-  labels-all = rw (names-all s t.names)
+  pub labels-done : length xs ≤ k → placed (label_of es) k (drop k (texts xs)) ≡ []
+  unfolding placed
+  labels-done h =
+      let l = length-map xs (λ x. x.now) in
+      rw (left-none (texts xs) k (omega arith))
 
-  pub labels-more : (k : ℕ) → Spans s t.names most_labels → k < t.names.n →
-      labels_from s ws t k ≡ label_of (entries ws t.lines) k (text_at s (get_or t.names.spans k (span 0 0))) ∷ labels_from s ws t (k + 1)
-  unfolding labels_from placed
-  labels-more k g h = rw (names_more {i = k} g h)
-
-  pub labels-done : (k : ℕ) → k ≡ t.names.n → labels_from s ws t k ≡ []
-  unfolding labels_from placed
-  labels-done k e = rw (names-done s t.names k e)
+  pub labels-some : k < length xs → 1 ≤ length (placed (label_of es) k (drop k (texts xs)))
+  labels-some h = omega (arith, length-placed (label_of es) k (drop k (texts xs)), length-drop k (texts xs), length-map xs (λ x. x.now))

@@ -1,139 +1,112 @@
 -- Lines: the walk over all lines of a sheet. Reading the rest from here, in the state that was reached, is reading the sheet.
 --
--- In order: what an end of the walk gives; before the first line; a line that can be read; a breach; after the last line. Assumes nothing.
-use mathlib.Core.Path.{◌≡◌, refl, ◌∙◌, sym}
+-- In order: an end of the walk; before the first line; a line; after the last line. Assumes nothing.
+use mathlib.Core.Path.{◌≡◌, refl, ◌∙◌, sym, ap}
 use mathlib.Core.Bool.{true, false, ◌&&◌}
-use mathlib.Core.List.{List}
-use Prim.Native.Nat.{ℕ, ◌+◌, ◌<◌, ◌≤◌}
+use mathlib.Core.List.{List, [], ◌∷◌}
+use Prim.Native.Nat.{ℕ, ◌+◌, ◌*◌, ◌<◌, ◌≤◌}
 use native.Mathlib.Omega.{arith}
-use lib.Dec.{eqb}
+use lib.Dec.{eqb, eqb-suc-zero}
 use lib.ListN.{length}
-use lib.Seq.{slice, take-length}
-use Rattle.limits.specs.Limits.{most_classes, most_labels, most_nodes, most_bytes}
+use borrow.Author.Tests.{le-leb}
+use Rattle.std.specs.Prelude.{Ok, Err, Option as Maybe}
+use Rattle.std.specs.Option.{is_some}
+use Rattle.limits.specs.Limits.{most_bytes}
 use Rattle.answers.specs.Answers.{verdict_of}
-use Rattle.answers.specs.declared.Answer.TheVariants.{Accepted, Breach}
-use Rattle.tables.proofs.Parts.{slice-none, slice-next}
-use Rattle.drawing.specs.Builder.{empty_drawing}
-use Rattle.drawing.proofs.Builder.{view-empty}
+use Rattle.answers.specs.declared.Refusal.TheVariants.{Breach}
+use Rattle.tables.proofs.Tests.{true-not-false}
 use Rattle.sheet_text.specs.Text.{split}
-use Rattle.sheet_text.specs.inner.Parts.{span, Cut, no_names}
-use Rattle.sheet_text.proofs.Spans.{names-none, spans-none}
+use Rattle.sheet_text.specs.inner.Parts.{Apart}
+use Rattle.sheet_text.specs.inner.Parts.{Whole as OnePart}
 use Rattle.sheet_lines.specs.declared.State.{State}
-use Rattle.sheet_lines.specs.declared.Step.{Step}
-use Rattle.sheet_lines.specs.Reading.{nothing, allow, read_line}
-use Rattle.sheet_lines.specs.inner.State.{entries_of, entries, tables_read, view_of, Fine, Ready, LineRead}
-use Rattle.sheet_lines.proofs.Steps.{fine-later}
+use Rattle.sheet_lines.specs.Reading.{Reading, nothing, allow, read_line}
+use Rattle.sheet_lines.specs.inner.State.{view_of, line_count, Empty, Fine, Ready, LineRead}
 use Rattle.sheet_reader.specs.Sheet.{read, breach, finish, continue, ends_at, read_lines, read_sheet}
-use Rattle.sheet_reader.specs.inner.Answers.{no_state, verdict_in, most_lines, Scanned}
-use Rattle.sheet_reader.proofs.Words.{sheet-long, sheet-short}
+use Rattle.sheet_reader.specs.inner.Answers.{verdict_in, Scanned}
+use Rattle.sheet_reader.proofs.Words.{sheet-long}
 
 -- ---- an end
 
-module _ {s ws vs : List ℕ} {x : State} (f : Fine s (length s + 1) x) (few : x.classes.lines + x.labels.lines ≤ most_lines) where
-  broken : {at : ℕ} → breach at ≡ read_sheet s → Scanned s ws vs (record { answer = Breach at; state = x })
-  unfolding verdict_of verdict_in
-  broken e = record { verdict = rw (← e); shown = λ h. cc; fine = f; few = few }
+broken : {s : List ℕ} {x : State} {at : ℕ} → breach at ≡ read_sheet s → Scanned s x (Err (Breach at))
+unfolding verdict_of verdict_in
+broken e = record { verdict = rw (← e); whole = tt }
 
-  whole : read (view_of s ws vs x) ≡ read_sheet s → Scanned s ws vs (record { answer = Accepted; state = x })
-  unfolding verdict_of verdict_in
-  whole e = record { verdict = rw (← e); shown = λ h. sym e; fine = f; few = few }
+pub too-long : (s : List ℕ) {x : State} → most_bytes < length s → Scanned s x (Err (Breach 0))
+too-long s h = broken (sym (sheet-long s h))
+
+ended : (left : List ℕ) (v : Reading) (at : ℕ) → (eqb (length left) 0 && (eqb v.section 3 && v.opened)) ≡ true → read v ≡ ends_at at v left
+unfolding ends_at finish
+ended [] v at t = rw t
+ended (b ∷ bs) v at t = absurd (true-not-false t (rw eqb-suc-zero))
+
+stopped : (left : List ℕ) (v : Reading) (at : ℕ) → (eqb (length left) 0 && (eqb v.section 3 && v.opened)) ≡ false → breach at ≡ ends_at at v left
+unfolding ends_at finish
+stopped [] v at t = rw t
+stopped (b ∷ bs) v at t = refl
 
 -- ---- before the first line
 
-shows_nothing : (s ws vs : List ℕ) → view_of s ws vs no_state ≡ nothing
-unfolding view_of no_state tables_read entries entries_of nothing
-shows_nothing s ws vs = rw (names-none s, view-empty)
-
-empty-drawn : empty_drawing.n ≡ no_names.n
-unfolding empty_drawing no_names
-empty-drawn = refl
-
-fine-nothing : (s : List ℕ) → Fine s 0 no_state
-unfolding no_state
-fine-nothing s = record {
-  section = omega arith;
-  classes = spans-none s most_classes;
-  labels = spans-none s most_labels;
-  nodes = spans-none s most_nodes;
-  drawn = empty-drawn;
-  lines = omega arith;
-}
-
-pub too_long : (s ws vs : List ℕ) → most_bytes < length s → Scanned s ws vs (record { answer = Breach 0; state = no_state })
-unfolding no_state
-too_long s ws vs h = broken (fine-later (fine-nothing s) (omega arith)) (omega arith) (sym (sheet-long s h))
-
--- line number `at` starts at place a
-pub record Going (s ws₀ vs₀ ws vs : List ℕ) (at a : ℕ) (x : State) : Type 0 where
+-- line number `at` begins what is left of the sheet
+pub record Going (s left : List ℕ) (at : ℕ) (x : State) : Type 0 where
   pub short : length s ≤ most_bytes
-  pub up_to : a ≤ length s
-  pub early : at ≤ a + 1
-  pub fine : Fine s a x
-  pub class_size : length ws ≡ length ws₀
-  pub label_size : length vs ≡ length vs₀
-  pub rest : read_lines at (view_of s ws vs x) (split 10 (slice a (length s) s)).first (split 10 (slice a (length s) s)).rest ≡ read_sheet s
+  pub early : at + length left ≤ length s + 1
+  pub fine : Fine x
+  pub lines : 4 * line_count x + length left ≤ length s
+  pub rest : read_lines at (view_of x) (split 10 left).first (split 10 left).rest ≡ read_sheet s
 
-pub lines_start : (s ws vs : List ℕ) → length s ≤ most_bytes → Going s ws vs ws vs 1 0 no_state
-lines_start s ws vs h = record {
+no-lines : (x : State) → view_of x ≡ nothing → line_count x ≡ 0
+unfolding view_of nothing
+no-lines x e = let a = ap (λ v. length v.classes.lines) e in let b = ap (λ v. length v.labels.lines) e in omega arith
+
+pub lines-start : (s : List ℕ) {x : State} → length s ≤ most_bytes → Empty x → Going s s 1 x
+unfolding read_sheet
+lines-start s {x} h e = record {
   short = h;
-  up_to = omega arith;
   early = omega arith;
-  fine = fine-nothing s;
-  class_size = refl;
-  label_size = refl;
-  rest = rw (shows_nothing s ws vs, take-length s, sheet-short s h);
+  fine = e.fine;
+  lines = omega (arith, no-lines x e.shows);
+  rest = rw (e.shows, le-leb (length s) most_bytes h);
 }
 
 -- ---- a line
 
-module _ {s ws₀ vs₀ ws vs : List ℕ} {at a : ℕ} {x : State} (g : Going s ws₀ vs₀ ws vs at a x) where
-  few-lines : x.classes.lines + x.labels.lines ≤ most_lines
-  few-lines = omega (arith, g.fine.lines, g.up_to, g.short)
+module _ {s rest : List ℕ} {at : ℕ} {x : State} (g : Going s rest at x) where
+  module _ {line behind : List ℕ} (c : Apart 10 rest line behind) where
+    pub line-ready : Ready line x
+    line-ready = record { fine = g.fine; short = omega (arith, g.lines, g.short, c.size) }
 
-  later : Fine s (length s + 1) x
-  later = fine-later g.fine (omega (arith, g.up_to))
+    module _ {y : State} {r : Maybe (Unit {0})} (d : LineRead line x y r (λ v. read_line v line)) where
+      one-line : continue at (allow (is_some r) (view_of y)) (λ v. read_lines (at + 1) v (split 10 behind).first (split 10 behind).rest) ≡ read_sheet s
+      unfolding read_lines
+      one-line = rw d.answer (rw c.parts at g.rest)
 
-  pub line-ready : {e : ℕ} → Cut s a (length s) 10 e → Ready s (span a e) x
-  line-ready c = record { inside = record { ordered = c.from; ends = c.up_to }; short = g.short; fine = g.fine }
+      pub line-passes : is_some r ≡ true → Going s behind (at + 1) y
+      unfolding allow continue
+      line-passes t = record {
+        short = g.short;
+        early = omega (arith, g.early, c.size);
+        fine = d.fine;
+        lines = omega (arith, g.lines, d.count, c.size);
+        rest = rw t at one-line;
+      }
 
-  -- a last line without its line feed
-  pub unended : {e : ℕ} → a < length s → Cut s a (length s) 10 e → length s ≤ e → Scanned s ws vs (record { answer = Breach at; state = x })
-  unfolding read_lines ends_at
-  unended h c l = broken later few-lines (rw (c.last l, slice-next s a (length s) h (omega arith)) at g.rest)
-
-  module _ {e : ℕ} (c : Cut s a (length s) 10 e) (l : e < length s) {ws' vs' : List ℕ} {r : Step}
-      (d : LineRead s ws ws' vs vs' (span a e) x r (λ v. read_line v (slice a e s))) where
-    one_line : continue at (allow r.read (view_of s ws' vs' r.state)) (λ v. read_lines (at + 1) v (split 10 (slice (e + 1) (length s) s)).first (split 10 (slice (e + 1) (length s) s)).rest)
-        ≡ read_sheet s
-    unfolding read_lines
-    one_line = rw d.answer (rw (c.more l) at g.rest)
-
-    pub line-passes : r.read ≡ true → Going s ws₀ vs₀ ws' vs' (at + 1) (e + 1) r.state
-    unfolding allow continue
-    line-passes t = record {
-      short = g.short;
-      up_to = omega arith;
-      early = omega (arith, g.early, c.from);
-      fine = d.fine;
-      class_size = d.class_size ∙ g.class_size;
-      label_size = d.label_size ∙ g.label_size;
-      rest = rw t at one_line;
-    }
-
-    pub line-breaks : r.read ≡ false → Scanned s ws' vs' (record { answer = Breach at; state = r.state })
-    unfolding allow continue
-    line-breaks t = broken (fine-later d.fine (omega arith)) (omega (arith, d.fine.lines, g.short)) (rw t at one_line)
+      pub line-breaks : is_some r ≡ false → Scanned s y (Err (Breach at))
+      unfolding allow continue
+      line-breaks t = broken (rw t at one-line)
 
   -- ---- after the last line
 
-  at-end : length s ≤ a → finish at (view_of s ws vs x) ≡ read_sheet s
-  unfolding read_lines ends_at split
-  at-end h = rw (slice-none s a (length s) h) at g.rest
+  module _ (w : OnePart 10 rest) where
+    at-end : ends_at at (view_of x) rest ≡ read_sheet s
+    unfolding read_lines
+    at-end = rw w at g.rest
 
-  pub all_read : length s ≤ a → (eqb x.section 3 && x.opened) ≡ true → Scanned s ws vs (record { answer = Accepted; state = x })
-  unfolding finish view_of
-  all_read h t = whole later few-lines (rw t at (at-end h))
+    pub all-read : (eqb (length rest) 0 && (eqb (view_of x).section 3 && (view_of x).opened)) ≡ true → Scanned s x (Ok tt)
+    unfolding verdict_of verdict_in
+    all-read t = record { verdict = rw (← whole); whole = record { shown = sym whole; fine = g.fine; few = omega (arith, g.lines, g.short) } }
+      where
+        whole : read (view_of x) ≡ read_sheet s
+        whole = ended rest (view_of x) at t ∙ at-end
 
-  pub ends-early : length s ≤ a → (eqb x.section 3 && x.opened) ≡ false → Scanned s ws vs (record { answer = Breach at; state = x })
-  unfolding finish view_of
-  ends-early h t = broken later few-lines (rw t at (at-end h))
+    pub ends-early : (eqb (length rest) 0 && (eqb (view_of x).section 3 && (view_of x).opened)) ≡ false → Scanned s x (Err (Breach at))
+    ends-early t = broken (stopped rest (view_of x) at t ∙ at-end)

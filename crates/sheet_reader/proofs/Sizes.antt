@@ -3,12 +3,10 @@
 -- In order: the lines in all tables; the labels, and their tables; the parts of a feed, and their size; the feed, part by part. Assumes nothing.
 use mathlib.Core.Path.{◌≡◌, refl, ◌∙◌, sym, ap}
 use mathlib.Core.List.{List, [], ◌∷◌, ◌++◌, map, append_assoc}
-use Prim.Native.Nat.{ℕ, zero, suc, ◌+◌, ◌*◌, ◌/◌, ◌<◌, ◌≤◌}
+use Prim.Native.Nat.{ℕ, zero, suc, ◌+◌, ◌*◌, ◌<◌, ◌≤◌}
 use native.Mathlib.Omega.{arith}
 use native.Mathlib.Decide.{ℕ_discrete}
-use lib.ListN.{length, take, length-append, length-map}
-use lib.Seq.{length-take-le}
-use Rattle.limits.specs.Limits.{most_labels}
+use lib.ListN.{length, length-append, length-map}
 use Rattle.tables.specs.Lists.{keep, count, below, placed, total}
 use Rattle.tables.specs.Order.{Table}
 use Rattle.tables.specs.Slices.{table_words, tables_words}
@@ -17,13 +15,12 @@ use Rattle.tables.proofs.Members.{length-count, length-placed}
 use Rattle.tables.proofs.Slices.{length-tables_words}
 use Rattle.tables.proofs.Putting.{put-size, put_then, put_as}
 use Rattle.feed.specs.Feed.{Label, label_word, feed_words}
-use Rattle.sheet_text.specs.inner.Parts.{names_of, Spans}
-use Rattle.sheet_text.proofs.Spans.{length-names}
-use Rattle.sheet_lines.specs.declared.Tables.{Tables}
-use Rattle.sheet_lines.specs.Reading.{Entry}
-use Rattle.sheet_lines.specs.inner.State.{entries_of, entries, tables_read}
-use Rattle.sheet_reader.specs.Sheet.{lines_of, grouped, label_of, labels_of}
-use Rattle.sheet_reader.specs.inner.Answers.{tables_in, labels_in, Lines, most_lines, feed_room, Feedable}
+use Rattle.sheet_text.specs.inner.Parts.{names_of}
+use Rattle.sheet_lines.specs.declared.Entry.{Entry}
+use Rattle.sheet_lines.specs.declared.entries.Tables.{Tables}
+use Rattle.sheet_lines.specs.inner.State.{tables_read}
+use Rattle.sheet_reader.specs.Sheet.{lines_of, grouped, tables_of, label_of, labels_of}
+use Rattle.sheet_reader.specs.inner.Answers.{feed_room, Feedable}
 use Rattle.sheet_reader.proofs.Grouping.{line-in, line-out}
 
 -- ---- the lines in all tables
@@ -67,21 +64,6 @@ pub tables-bound : (es : List Entry) (n : ℕ) → length (tables_words (grouped
 unfolding grouped below sizes
 tables-bound es n = let l = length-tables_words (grouped es n) in let b = lines-bound es 0 n in omega arith
 
-entries-length : (ws : List ℕ) → length (entries_of ws) ≡ length ws / 3
-unfolding entries_of
-entries-length [] = omega arith
-entries-length (k ∷ []) = omega arith
-entries-length (k ∷ l ∷ []) = omega arith
-entries-length (k ∷ l ∷ r ∷ ws) = let h = entries-length ws in omega arith
-
-length-entries : (ws : List ℕ) (n : ℕ) → 3 * n ≤ length ws → length (entries ws n) ≡ n
-unfolding entries
-length-entries ws n h = let l = length-take-le (3 * n) ws h in rw (entries-length (take (3 * n) ws), l) (omega arith)
-
-pub table-small : (ws : List ℕ) (n k : ℕ) → Lines ws n → length (lines_of k (entries ws n)) ≤ most_lines
-unfolding sizes total count
-table-small ws n k g = let b = lines-bound (entries ws n) k 1 in omega (arith, length-entries ws n g.inside, g.few)
-
 -- ---- the labels, and their tables
 
 pairs-placed : (es : List Entry) (i : ℕ) (names : List (List ℕ)) → map (λ l. l.pairs) (placed (label_of es) i names) ≡ map (λ k. lines_of k es) (count i (length names))
@@ -89,14 +71,22 @@ unfolding placed label_of count
 pairs-placed es i [] = refl
 pairs-placed es i (name ∷ names) = rw (pairs-placed es (i + 1) names)
 
-module _ {s : List ℕ} (ws : List ℕ) (t : Tables) (g : Spans s t.names most_labels) where
-  length-labels : length (labels_in s ws t) ≡ t.names.n
-  unfolding labels_in labels_of tables_read
-  length-labels = length-placed (label_of (entries ws t.lines)) 0 (names_of s t.names) ∙ length-names g (omega arith)
+module _ (t : Tables) where
+  length-tables : length (tables_of (tables_read t)) ≡ length (names_of t.names)
+  unfolding tables_of tables_read
+  length-tables = length-grouped _ _
 
-  pairs-of-labels : map (λ l. l.pairs) (labels_in s ws t) ≡ tables_in ws t
-  unfolding labels_in labels_of tables_read tables_in grouped below
-  pairs-of-labels = rw (pairs-placed (entries ws t.lines) 0 (names_of s t.names), length-names g (omega arith))
+  length-labels : length (labels_of (tables_read t)) ≡ length (names_of t.names)
+  unfolding labels_of tables_read
+  length-labels = length-placed (label_of (tables_read t).lines) 0 (names_of t.names)
+
+  pairs-of-labels : map (λ l. l.pairs) (labels_of (tables_read t)) ≡ tables_of (tables_read t)
+  unfolding labels_of tables_of grouped below
+  pairs-of-labels = pairs-placed (tables_read t).lines 0 (tables_read t).names
+
+  words-bound : length (tables_words (tables_of (tables_read t))) ≤ 2 * length (tables_read t).lines
+  unfolding tables_of
+  words-bound = tables-bound (tables_read t).lines _
 
 -- ---- the parts of a feed
 
@@ -110,17 +100,10 @@ feed-parts : (cs : List Table) (ls : List Label) {ts : List Table} → map (λ l
 unfolding feed_words
 feed-parts cs ls {ts} e = rw (e, tables-joined cs ts)
 
-pub feed-size : {words s ws vs : List ℕ} {c l : Tables} → Feedable words s ws vs c l → length (feed_words (tables_in ws c) (labels_in s vs l)) ≤ feed_room
-unfolding tables_in
-feed-size {s = s} {ws = ws} {vs = vs} {c = c} {l = l} g =
-    let cs = entries ws c.lines in
-    let ls = entries vs l.lines in
-    let m = length-entries ws c.lines (omega (arith, g.few, g.held.class_room)) in
-    let n = length-entries vs l.lines (omega (arith, g.few, g.held.label_room)) in
-    let a = tables-bound cs c.names.n in
-    let b = tables-bound ls l.names.n in
-    let e = simp (length-append, length-map) at (ap length (feed-parts (tables_in ws c) (labels_in s vs l) (pairs-of-labels vs l g.labels))) in
-    omega (arith, g.few, g.classes, g.labels.few, length-grouped cs c.names.n, length-labels vs l g.labels)
+pub feed-size : {words : List ℕ} {c l : Tables} → Feedable words c l → length (feed_words (tables_of (tables_read c)) (labels_of (tables_read l))) ≤ feed_room
+feed-size {c = c} {l = l} g =
+    let e = simp (length-append, length-map) at (ap length (feed-parts (tables_of (tables_read c)) (labels_of (tables_read l)) (pairs-of-labels l))) in
+    omega (arith, g.few, g.classes, g.labels, words-bound c, words-bound l, length-tables c, length-labels l)
 
 -- ---- the feed, part by part: there is room for each behind the one before it
 
@@ -130,29 +113,22 @@ room-first at xs ys h = let l = length-append xs ys in omega arith
 room-rest : {ws vs : List ℕ} {at r : ℕ} {xs : List ℕ} → Put ws vs at xs r → (ys : List ℕ) → at + length (xs ++ ys) ≤ length ws → r + length ys ≤ length vs
 room-rest {xs = xs} w ys h = let l = length-append xs ys in omega (arith, w.next, put-size w)
 
-module _ {words s ws vs : List ℕ} {c l : Tables} (g : Feedable words s ws vs c l) where
+module _ {words : List ℕ} {c l : Tables} (g : Feedable words c l) where
   abbrev cs : List Table
-  cs = tables_in ws c
+  cs = tables_of (tables_read c)
 
   abbrev ls : List Label
-  ls = labels_in s vs l
+  ls = labels_of (tables_read l)
 
   abbrev ts : List Table
-  ts = tables_in vs l
+  ts = tables_of (tables_read l)
 
   parts : (length cs ∷ length ls ∷ []) ++ (map length cs ++ (map label_word ls ++ (tables_words cs ++ tables_words ts))) ≡ feed_words cs ls
-  parts = feed-parts cs ls (pairs-of-labels vs l g.labels)
+  parts = feed-parts cs ls (pairs-of-labels l)
 
-  pub class-lines : Lines ws c.lines
-  class-lines = record { inside = omega (arith, g.few, g.held.class_room); few = omega (arith, g.few) }
-
-  pub label-lines : Lines vs l.lines
-  label-lines = record { inside = omega (arith, g.few, g.held.label_room); few = omega (arith, g.few) }
-
-  module _ {words₁ : List ℕ} {r₁ : ℕ} (p₁ : Put words words₁ 0 (c.names.n ∷ l.names.n ∷ []) r₁) where
+  module _ {words₁ : List ℕ} {r₁ : ℕ} (p₁ : Put words words₁ 0 (length (names_of c.names) ∷ length (names_of l.names) ∷ []) r₁) where
     head : Put words words₁ 0 (length cs ∷ length ls ∷ []) r₁
-    unfolding tables_in
-    head = rw (length-grouped (entries ws c.lines) c.names.n, length-labels vs l g.labels) p₁
+    head = rw (length-tables c, length-labels l) p₁
 
     room₁ : r₁ + length (map length cs ++ (map label_word ls ++ (tables_words cs ++ tables_words ts))) ≤ length words₁
     room₁ =

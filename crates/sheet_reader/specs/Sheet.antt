@@ -8,7 +8,8 @@ use Rattle.tables.specs.Lists.{keep, below, placed}
 use Rattle.tables.specs.Order.{Table}
 use Rattle.feed.specs.Feed.{Label, feed_words}
 use Rattle.sheet_text.specs.Text.{split, is_starred}
-use Rattle.sheet_lines.specs.Reading.{Entry, Named, Reading, nothing, read_line}
+use Rattle.sheet_lines.specs.declared.Entry.{Entry}
+use Rattle.sheet_lines.specs.Reading.{Named, Reading, nothing, read_line}
 
 -- ---- all lines
 

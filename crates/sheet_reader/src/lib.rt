@@ -2,242 +2,156 @@
 
 #![tactic(auto)]
 
-ghost use Rattle.std.specs.Prelude.{◌≡◌, map, ◌+◌, length};
+ghost use Rattle.std.specs.Prelude.{◌≡◌, map, ◌≤◌, length};
 ghost use Rattle.tables.specs.Slices.{table_words, tables_words};
 ghost use Rattle.tables.specs.inner.Words.{Put};
 ghost use Rattle.feed.specs.Feed.{label_word, feed_words};
-ghost use Rattle.sheet_text.specs.inner.Parts.{text_at};
-ghost use Rattle.sheet_lines.specs.inner.State.{entries, Held};
-ghost use Rattle.sheet_reader.specs.Sheet.{lines_of, label_of};
-ghost use Rattle.sheet_reader.specs.inner.Answers.{no_state, Scanned, tables_in, labels_in, Lines, LabelIn, Writable, LabelsFit, Feedable, Lent, Answers, TableFits};
+ghost use Rattle.sheet_lines.specs.inner.Lines.{most_lines};
+ghost use Rattle.sheet_lines.specs.inner.State.{tables_read, Empty};
+ghost use Rattle.sheet_reader.specs.Sheet.{lines_of, tables_of, label_of, labels_of};
+ghost use Rattle.sheet_reader.specs.inner.Answers.{feed_room, Scanned, Writable, Feedable, Answers, TableFits};
 
-use answers::{Answer, accepts};
+use answers::Refusal;
 use drawing::Drawing;
 use feed::count_word;
 use limits::{SHEET_BYTES, TABLES};
-use sheet_lines::{LINE_WORDS, State, Tables, read_line};
-use sheet_text::{Names, Span, cut, is_starred, no_names};
-use tables::words::{put_two, put_word};
+use sheet_lines::{Entry, LINES, State, Tables};
+use sheet_text::{Names, cut, is_starred};
+use tables::words::put_words;
 
 // The most words of a feed that comes from a sheet: two, the counts of all tables, and two for each line.
-pub const FEED_WORDS: usize = 2 + TABLES + 2 * (LINE_WORDS / 3);
-
-// Whether all lines are as they should be, or the line of the first breach; and the state after those that could be read.
-#[derive(Clone, Copy)]
-pub struct Scan {
-    pub answer: Answer,
-    pub state: State,
-}
+pub const FEED_WORDS: usize = 2 + TABLES + 2 * LINES;
 
 // What a sheet gives: how many words its feed has, its node names, and its drawing.
 #[derive(Clone, Copy)]
-pub struct SheetRead {
-    pub answer: Answer,
+pub struct SheetRead<'a> {
     pub feed: usize,
-    pub nodes: Names,
+    pub nodes: Names<'a>,
     pub drawing: Drawing,
 }
 
 // ---- all lines
 
-// The state before the first line.
-fn empty() -> State
-    ensures { result ≡ no_state }
-{
-    let names = no_names();
-    let tables = Tables { names, lines: 0 };
-    let drawing = Drawing::empty();
-    State {
-        section: 0,
-        opened: false,
-        classes: tables,
-        labels: tables,
-        nodes: names,
-        drawing,
-    }
-}
-
 // All lines, of a sheet that is not too long. The last has no line feed behind it and must be empty.
-fn read_lines(classes: &mut [u32], labels: &mut [u32], s: &[u8]) -> Scan
-    requires { Held classes.old labels.old }
-    ensures { Scanned s.now classes.new labels.new result }
+fn read_lines<'a>(state: &mut State<'a>, sheet: &'a [u8]) -> Result<(), Refusal>
+    requires { Empty state.old }
+    ensures { Scanned sheet.now state.new result }
 {
-    let n = s.len();
-    let mut x = empty();
-    if n > SHEET_BYTES {
-        return Scan {
-            answer: Answer::Breach(0),
-            state: x,
-        };
+    if sheet.len() > SHEET_BYTES {
+        return Err(Refusal::Breach(0));
     }
-    let mut a = 0;
+    let mut rest = sheet;
     let mut at: u32 = 1;
-    while a < n {
-        let e = cut(s, a, n, 10);
-        if e == n {
-            return Scan {
-                answer: Answer::Breach(at),
-                state: x,
-            };
+    // Until no line feed is left: a `for` over `split` would not know which piece is the last, and that one is no line.
+    while let Some((line, behind)) = cut(rest, b'\n') {
+        if state.read_line(line).is_none() {
+            return Err(Refusal::Breach(at));
         }
-        let line = Span { start: a, end: e };
-        let step = read_line(classes, labels, s, line, x);
-        x = step.state;
-        a = e + 1;
-        if !step.read {
-            return Scan {
-                answer: Answer::Breach(at),
-                state: x,
-            };
-        }
+        rest = behind;
         at += 1;
     }
-    if (x.section == 3) & x.opened {
-        return Scan {
-            answer: Answer::Accepted,
-            state: x,
-        };
+    let ended = rest.is_empty();
+    if ended & state.is_complete() {
+        return Ok(());
     }
-    Scan {
-        answer: Answer::Breach(at),
-        state: x,
-    }
+    Err(Refusal::Breach(at))
 }
 
-// ---- the feed, from lines that stand in words
+// ---- the feed
 
 // How many of the lines are of table k.
-fn count_lines(rows: &[u32], lines: usize, k: u32) -> u32
-    requires { Lines rows.now lines }
-    ensures { result ≡ length (lines_of k (entries rows.now lines)) }
+fn count_lines(entries: &[Entry], k: u32) -> u32
+    requires { length entries.now ≤ most_lines }
+    ensures { result ≡ length (lines_of k entries.now) }
 {
-    let mut n: u32 = 0;
-    let mut i = 0;
-    while i < lines {
-        let table = rows[3 * i];
-        i += 1;
-        if table == k {
-            n += 1;
-        }
-    }
-    n
+    entries.iter().filter(|x| x.table == k).count() as u32
 }
 
 // Writes how many lines each of the classes has.
-fn put_counts(words: &mut [u32], at: usize, rows: &[u32], t: Tables) -> usize
-    requires { Writable words.old at rows.now t (map length (tables_in rows.now t)) }
-    ensures { Put words.old words.new at (map length (tables_in rows.now t)) result }
+fn put_counts(words: &mut [u32], at: usize, t: &Tables) -> usize
+    requires { Writable words.old at t.now (map length (tables_of (tables_read t.now))) }
+    ensures { Put words.old words.new at (map length (tables_of (tables_read t.now))) result }
 {
     let mut out = at;
-    let mut k = 0;
-    while k < t.names.n {
-        let n = count_lines(rows, t.lines, k as u32);
-        out = put_word(words, out, n);
-        k += 1;
+    for k in 0..t.names.len() {
+        out = put_words(words, out, &[count_lines(t.entries(), k as u32)]);
     }
     out
 }
 
 // The count word of label k, by its name.
-fn label_word(s: &[u8], name: Span, rows: &[u32], lines: usize, k: u32) -> u32
-    requires { LabelIn s.now name rows.now lines }
-    ensures { result ≡ label_word (label_of (entries rows.now lines) k (text_at s.now name)) }
+fn label_word(name: &[u8], entries: &[Entry], k: u32) -> u32
+    requires { length entries.now ≤ most_lines }
+    ensures { result ≡ label_word (label_of entries.now k name.now) }
 {
-    let n = count_lines(rows, lines, k);
-    count_word(n, is_starred(s, name))
+    count_word(count_lines(entries, k), is_starred(name))
 }
 
 // Writes the count word of each of the labels.
-fn put_label_counts(words: &mut [u32], at: usize, s: &[u8], rows: &[u32], t: Tables) -> usize
-    requires { LabelsFit words.old at s.now rows.now t }
-    ensures { Put words.old words.new at (map label_word (labels_in s.now rows.now t)) result }
+fn put_label_counts(words: &mut [u32], at: usize, t: &Tables) -> usize
+    requires { Writable words.old at t.now (map label_word (labels_of (tables_read t.now))) }
+    ensures { Put words.old words.new at (map label_word (labels_of (tables_read t.now))) result }
 {
     let mut out = at;
-    let mut k = 0;
-    while k < t.names.n {
-        let names = t.names;
-        let n = label_word(s, names.spans[k], rows, t.lines, k as u32);
-        out = put_word(words, out, n);
-        k += 1;
+    let names = t.names.as_slice();
+    for (k, name) in names.iter().enumerate() {
+        out = put_words(words, out, &[label_word(name, t.entries(), k as u32)]);
     }
     out
 }
 
 // Writes the pairs of table k, in the order of the lines.
-fn put_table(words: &mut [u32], at: usize, rows: &[u32], lines: usize, k: u32) -> usize
-    requires { TableFits words.old at rows.now lines k }
-    ensures { Put words.old words.new at (table_words (lines_of k (entries rows.now lines))) result }
+fn put_table(words: &mut [u32], at: usize, entries: &[Entry], k: u32) -> usize
+    requires { TableFits words.old at entries.now k }
+    ensures { Put words.old words.new at (table_words (lines_of k entries.now)) result }
 {
     let mut out = at;
-    let mut i = 0;
-    while i < lines {
-        let j = 3 * i;
-        i += 1;
-        if rows[j] == k {
-            out = put_two(words, out, rows[j + 1], rows[j + 2]);
+    for x in entries {
+        if x.table == k {
+            out = put_words(words, out, &[x.entry.left, x.entry.right]);
         }
     }
     out
 }
 
 // Writes the pairs of each of the tables.
-fn put_tables(words: &mut [u32], at: usize, rows: &[u32], t: Tables) -> usize
-    requires { Writable words.old at rows.now t (tables_words (tables_in rows.now t)) }
-    ensures { Put words.old words.new at (tables_words (tables_in rows.now t)) result }
+fn put_tables(words: &mut [u32], at: usize, t: &Tables) -> usize
+    requires { Writable words.old at t.now (tables_words (tables_of (tables_read t.now))) }
+    ensures { Put words.old words.new at (tables_words (tables_of (tables_read t.now))) result }
 {
     let mut out = at;
-    let mut k = 0;
-    while k < t.names.n {
-        out = put_table(words, out, rows, t.lines, k as u32);
-        k += 1;
+    for k in 0..t.names.len() {
+        out = put_table(words, out, t.entries(), k as u32);
     }
     out
 }
 
 // Writes the feed of these classes and labels, and gives its length.
-fn put_feed(
-    words: &mut [u32],
-    s: &[u8],
-    classes: &[u32],
-    labels: &[u32],
-    c: Tables,
-    l: Tables,
-) -> usize
-    requires { Feedable words.old s.now classes.now labels.now c l }
-    ensures { Put words.old words.new 0 (feed_words (tables_in classes.now c) (labels_in s.now labels.now l)) result }
+fn put_feed(words: &mut [u32], c: &Tables, l: &Tables) -> usize
+    requires { Feedable words.old c.now l.now }
+    ensures { Put words.old words.new 0 (feed_words (tables_of (tables_read c.now)) (labels_of (tables_read l.now))) result }
 {
-    let head = put_two(words, 0, c.names.n as u32, l.names.n as u32);
-    let first = put_counts(words, head, classes, c);
-    let second = put_label_counts(words, first, s, labels, l);
-    let third = put_tables(words, second, classes, c);
-    put_tables(words, third, labels, l)
+    let head = put_words(words, 0, &[c.names.len() as u32, l.names.len() as u32]);
+    let first = put_counts(words, head, c);
+    let second = put_label_counts(words, first, l);
+    let third = put_tables(words, second, c);
+    put_tables(words, third, l)
 }
 
 // ---- a sheet
 
-// Reads a sheet: its feed's words go to the front of a slice. The lines of the classes and of the labels are held in two more.
-pub fn read_sheet(feed: &mut [u32], classes: &mut [u32], labels: &mut [u32], s: &[u8]) -> SheetRead
-    requires { Lent feed.old classes.old labels.old }
-    ensures { Answers s.now feed.new result }
+// Reads a sheet: its feed's words go to the front of a slice. Not inlined, so that what it reads into is off the stack before the query runs.
+#[inline(never)]
+pub fn read_sheet<'a>(feed: &mut [u32], sheet: &'a [u8]) -> Result<SheetRead<'a>, Refusal>
+    requires { feed_room ≤ length feed.old }
+    ensures { Answers sheet.now feed.new result }
 {
-    let scan = read_lines(classes, labels, s);
-    let answer = scan.answer;
-    let x = scan.state;
-    let nodes = x.nodes;
-    let drawing = x.drawing;
-    if accepts(answer) {
-        let n = put_feed(feed, s, classes, labels, x.classes, x.labels);
-        return SheetRead {
-            answer,
-            feed: n,
-            nodes,
-            drawing,
-        };
-    }
-    SheetRead {
-        answer,
-        feed: 0,
-        nodes,
-        drawing,
-    }
+    let mut state = State::empty();
+    read_lines(&mut state, sheet)?;
+    let n = put_feed(feed, &state.classes, &state.labels);
+    Ok(SheetRead {
+        feed: n,
+        nodes: state.nodes,
+        drawing: state.drawing,
+    })
 }

@@ -1,4 +1,3 @@
 pub mod Parts
 pub mod Words
-pub mod Spans
-pub mod Stars
+pub mod Finding

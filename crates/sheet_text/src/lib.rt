@@ -2,339 +2,159 @@
 
 #![tactic(auto)]
 
-ghost use Rattle.std.specs.Prelude.{◌≡◌, true, ◌<◌};
-ghost use Rattle.limits.specs.Limits.{most_labels};
+mod names; // names.rt: names by number
+
+ghost use Rattle.std.specs.Prelude.{◌≡◌, true};
 ghost use Rattle.tables.specs.Lists.{all};
-ghost use Rattle.sheet_text.specs.Text.{within, is_name, is_number, value_of, same, find, is_dash, is_number_or_dash, number_or_any, is_starred, is_label_name, differ_by_star, clashes};
-ghost use Rattle.sheet_text.specs.inner.Parts.{span, text_at, Inside, Cut, Fronted, Fielded, names_of, no_names, with_name, InsideBoth, Starless, Numeral, NumeralOrDash, Sought};
+ghost use Rattle.sheet_text.specs.Text.{within, is_name, is_number, value_of, is_dash, is_number_or_dash, number_or_any, is_starred, starless, is_label_name, differ_by_star};
+ghost use Rattle.sheet_text.specs.inner.Parts.{Cut, Two, Three, Four};
 
-use limits::{ANY_OBJECT, DIGITS, LABELS, LETTERS};
+use limits::{ANY_OBJECT, DIGITS, LETTERS};
+pub use names::Names;
 
-// A part of a slice: the place where it starts, and the place after its end.
-#[derive(Clone, Copy)]
-pub struct Span {
-    pub start: usize,
-    pub end: usize,
-}
+// ---- lines and fields
 
-// Names by number: the first n are there.
-#[derive(Clone, Copy)]
-pub struct Names {
-    pub spans: [Span; LABELS],
-    pub n: usize,
-}
-
-// How many fields a line has, 5 where it has more than 4, and the first four; one that is missing is empty.
-#[derive(Clone, Copy)]
-pub struct Fields {
-    pub count: usize,
-    pub first: Span,
-    pub second: Span,
-    pub third: Span,
-    pub fourth: Span,
-}
-
-// How many fields a part has, 3 where it has more than 2, the first two, and the rest behind them; what is missing is empty.
-#[derive(Clone, Copy)]
-struct Front {
-    count: usize,
-    first: Span,
-    second: Span,
-    rest: Span,
-}
-
-// The place of the next separator, or the end.
-pub fn cut(s: &[u8], a: usize, e: usize, sep: u8) -> usize
-    requires { Inside s.now (span a e) }
-    ensures { Cut s.now a e sep result }
+// What stands before the first separator, and what stands behind it; None where there is none.
+pub fn cut(text: &[u8], separator: u8) -> Option<(&[u8], &[u8])>
+    ensures { Cut separator text.now result }
 {
-    let mut i = a;
-    while i < e {
-        if s[i] == sep {
-            return i;
-        }
-        i += 1;
-    }
-    e
+    let at = text.iter().position(|b| *b == separator)?;
+    Some((&text[..at], &text[at + 1..]))
 }
 
-// The first two fields of a part, and the rest.
-fn front_of(s: &[u8], p: Span) -> Front
-    requires { Inside s.now p }
-    ensures { Fronted s.now p result }
+// The fields of a line that has two; None where it has fewer or more.
+pub fn two_fields(line: &[u8]) -> Option<(&[u8], &[u8])>
+    ensures { Two line.now result }
 {
-    let a = p.start;
-    let e = p.end;
-    let missing = Span { start: e, end: e };
-    let m = cut(s, a, e, 32);
-    let first = Span { start: a, end: m };
-    if m == e {
-        return Front {
-            count: 1,
-            first,
-            second: missing,
-            rest: missing,
-        };
+    let (first, second) = cut(line, b' ')?;
+    let more = second.contains(&b' ');
+    if more {
+        return None;
     }
-    let b = m + 1;
-    let k = cut(s, b, e, 32);
-    let second = Span { start: b, end: k };
-    if k == e {
-        return Front {
-            count: 2,
-            first,
-            second,
-            rest: missing,
-        };
-    }
-    let c = k + 1;
-    let rest = Span { start: c, end: e };
-    Front {
-        count: 3,
-        first,
-        second,
-        rest,
-    }
+    Some((first, second))
 }
 
-// The fields of a line.
-pub fn fields_of(s: &[u8], line: Span) -> Fields
-    requires { Inside s.now line }
-    ensures { Fielded s.now line result }
+// Of one that has three.
+pub fn three_fields(line: &[u8]) -> Option<(&[u8], &[u8], &[u8])>
+    ensures { Three line.now result }
 {
-    let a = front_of(s, line);
-    let first = a.first;
-    let second = a.second;
-    let rest = a.rest;
-    if a.count < 3 {
-        return Fields {
-            count: a.count,
-            first,
-            second,
-            third: rest,
-            fourth: rest,
-        };
-    }
-    let b = front_of(s, rest);
-    let third = b.first;
-    let fourth = b.second;
-    Fields {
-        count: 2 + b.count,
-        first,
-        second,
-        third,
-        fourth,
-    }
+    let (first, rest) = cut(line, b' ')?;
+    let (second, third) = two_fields(rest)?;
+    Some((first, second, third))
 }
 
-// Whether every byte of a part is one of these.
-fn all_within(s: &[u8], p: Span, low: u8, high: u8) -> bool
-    requires { Inside s.now p }
-    ensures { result ≡ all (within low high) (text_at s.now p) }
+// Of one that has four.
+pub fn four_fields(line: &[u8]) -> Option<(&[u8], &[u8], &[u8], &[u8])>
+    ensures { Four line.now result }
 {
-    let mut i = p.start;
-    while i < p.end {
-        if s[i] < low {
-            return false;
-        }
-        if s[i] > high {
-            return false;
-        }
-        i += 1;
-    }
-    true
+    let (first, rest) = cut(line, b' ')?;
+    let (second, third, fourth) = three_fields(rest)?;
+    Some((first, second, third, fourth))
 }
 
-// Whether a part is a name: 1 to 12 lower-case letters.
-pub fn is_name(s: &[u8], p: Span) -> bool
-    requires { Inside s.now p }
-    ensures { result ≡ is_name (text_at s.now p) }
+// ---- names and numbers
+
+// Whether every byte of a text is one of these.
+fn all_within(text: &[u8], low: u8, high: u8) -> bool
+    ensures { result ≡ all (within low high) text.now }
 {
-    let n = p.end - p.start;
-    if n == 0 {
-        return false;
-    }
-    if n > LETTERS {
-        return false;
-    }
-    all_within(s, p, 97, 122)
+    text.iter().all(|b| (low <= *b) & (*b <= high))
 }
 
-// Whether a part is a number: 1 to 5 digits without a leading zero.
-pub fn is_number(s: &[u8], p: Span) -> bool
-    requires { Inside s.now p }
-    ensures { result ≡ is_number (text_at s.now p) }
+// Whether a text is a name: 1 to 12 lower-case letters.
+#[tactic(auto, unfolding(crate::specs::Text::is_name, crate::specs::Text::within))]
+pub fn is_name(text: &[u8]) -> bool
+    ensures { result ≡ is_name text.now }
 {
-    let a = p.start;
-    let n = p.end - a;
-    if n == 0 {
-        return false;
-    }
-    if n > DIGITS {
-        return false;
-    }
-    if s[a] == 48 {
-        return n == 1;
-    }
-    all_within(s, p, 48, 57)
+    let n = text.len();
+    (1 <= n) & (n <= LETTERS) & all_within(text, b'a', b'z')
+}
+
+// Whether a text is a number: 1 to 5 digits without a leading zero.
+pub fn is_number(text: &[u8]) -> bool
+    ensures { result ≡ is_number text.now }
+{
+    let n = text.len();
+    let leading_zero = (n > 1) & text.starts_with(b"0");
+    (1 <= n) & (n <= DIGITS) & all_within(text, b'0', b'9') & !leading_zero
 }
 
 // The value of a number.
-pub fn value_of(s: &[u8], p: Span) -> u32
-    requires { Numeral s.now p }
-    ensures { result ≡ value_of (text_at s.now p) }
+// A loop: the closure of a `fold` would have to be callable at every sum, and a sum fits only as the digits are few.
+pub fn value_of(text: &[u8]) -> u32
+    requires { is_number text.now ≡ true }
+    ensures { result ≡ value_of text.now }
 {
     let mut n: u32 = 0;
-    let mut i = p.start;
-    while i < p.end {
-        n = 10 * n + (s[i] - 48) as u32;
-        i += 1;
+    for b in text {
+        n = 10 * n + (*b - b'0') as u32;
     }
     n
-}
-
-// Whether two parts are the same text.
-pub fn same_text(s: &[u8], p: Span, t: &[u8], q: Span) -> bool
-    requires { InsideBoth s.now p t.now q }
-    ensures { result ≡ same (text_at s.now p) (text_at t.now q) }
-{
-    if p.end - p.start != q.end - q.start {
-        return false;
-    }
-    let mut i = p.start;
-    let mut j = q.start;
-    while i < p.end {
-        if s[i] != t[j] {
-            return false;
-        }
-        i += 1;
-        j += 1;
-    }
-    true
-}
-
-// The number of a name; as many as there are where it is none of them.
-pub fn find_name(s: &[u8], p: Span, names: Names) -> usize
-    requires { Sought s.now p names }
-    ensures { result ≡ find (text_at s.now p) (names_of s.now names) }
-{
-    let n = names.n;
-    let mut i = 0;
-    while i < n {
-        if same_text(s, p, s, names.spans[i]) {
-            return i;
-        }
-        i += 1;
-    }
-    n
-}
-
-// No names.
-pub fn no_names() -> Names
-    ensures { result ≡ no_names }
-{
-    let p = Span { start: 0, end: 0 };
-    let spans = [p; LABELS];
-    Names { spans, n: 0 }
-}
-
-// The names, and one more, which is a part of the slice.
-pub fn with_name(names: Names, p: Span) -> Names
-    requires { names.n < most_labels }
-    ensures { result ≡ with_name names p }
-{
-    let n = names.n;
-    let mut more = names;
-    more.spans[n] = p;
-    more.n = n + 1;
-    more
 }
 
 // ---- the fixed object of a node, or a dash for any
 
-// Whether a part is a dash.
-fn is_dash(s: &[u8], p: Span) -> bool
-    requires { Inside s.now p }
-    ensures { result ≡ is_dash (text_at s.now p) }
+// Whether a text is a dash.
+#[tactic(auto, unfolding(crate::specs::Text::is_dash, crate::specs::Text::bytes), using(crate::proofs::Words::same_is))]
+fn is_dash(text: &[u8]) -> bool
+    ensures { result ≡ is_dash text.now }
 {
-    same_text(s, p, b"-", Span { start: 0, end: 1 })
+    text == b"-".as_slice()
 }
 
-// Whether a part is a number or a dash.
-pub fn is_number_or_dash(s: &[u8], p: Span) -> bool
-    requires { Inside s.now p }
-    ensures { result ≡ is_number_or_dash (text_at s.now p) }
+// Whether a text is a number or a dash.
+#[tactic(auto, unfolding(crate::specs::Text::is_number_or_dash))]
+pub fn is_number_or_dash(text: &[u8]) -> bool
+    ensures { result ≡ is_number_or_dash text.now }
 {
-    is_dash(s, p) | is_number(s, p)
+    is_dash(text) | is_number(text)
 }
 
 // The value of a number; the word for any object where it is a dash.
-pub fn number_or_any(s: &[u8], p: Span) -> u32
-    requires { NumeralOrDash s.now p }
-    ensures { result ≡ number_or_any (text_at s.now p) }
+#[tactic(auto, unfolding(crate::specs::Text::number_or_any, crate::specs::Text::is_number_or_dash))]
+pub fn number_or_any(text: &[u8]) -> u32
+    requires { is_number_or_dash text.now ≡ true }
+    ensures { result ≡ number_or_any text.now }
 {
-    if is_dash(s, p) {
+    if is_dash(text) {
         return ANY_OBJECT;
     }
-    value_of(s, p)
+    value_of(text)
 }
 
 // ---- names of labels, with a star or without
 
-// Whether a part ends with a star.
-pub fn is_starred(s: &[u8], p: Span) -> bool
-    requires { Inside s.now p }
-    ensures { result ≡ is_starred (text_at s.now p) }
+// Whether a text ends with a star.
+#[tactic(auto, unfolding(crate::specs::Text::is_starred))]
+pub fn is_starred(text: &[u8]) -> bool
+    ensures { result ≡ is_starred text.now }
 {
-    let e = p.end;
-    if p.start < e {
-        return s[e - 1] == 42;
+    text.last().copied() == Some(b'*')
+}
+
+// A text without its star.
+#[tactic(auto, unfolding(crate::specs::Text::starless))]
+fn starless(text: &[u8]) -> &[u8]
+    ensures { result.now ≡ starless text.now }
+{
+    if is_starred(text) {
+        return &text[..text.len() - 1];
     }
-    false
+    text
 }
 
-// A part without its star.
-fn starless(s: &[u8], p: Span) -> Span
-    requires { Inside s.now p }
-    ensures { Starless s.now p result }
+// Whether a text is the name of a label.
+#[tactic(auto, unfolding(crate::specs::Text::is_label_name))]
+pub fn is_label_name(text: &[u8]) -> bool
+    ensures { result ≡ is_label_name text.now }
 {
-    if is_starred(s, p) {
-        return Span {
-            start: p.start,
-            end: p.end - 1,
-        };
-    }
-    p
+    is_name(starless(text))
 }
 
-// Whether a part is the name of a label.
-pub fn is_label_name(s: &[u8], p: Span) -> bool
-    requires { Inside s.now p }
-    ensures { result ≡ is_label_name (text_at s.now p) }
+// Whether two texts are one name in two writings, with its star and without.
+#[tactic(auto, unfolding(crate::specs::Text::differ_by_star), using(crate::proofs::Words::same_is))]
+fn differ_by_star(a: &[u8], b: &[u8]) -> bool
+    ensures { result ≡ differ_by_star a.now b.now }
 {
-    is_name(s, starless(s, p))
-}
-
-// Whether two parts are one name in two writings, with its star and without.
-fn differ_by_star(s: &[u8], p: Span, q: Span) -> bool
-    requires { InsideBoth s.now p s.now q }
-    ensures { result ≡ differ_by_star (text_at s.now p) (text_at s.now q) }
-{
-    same_text(s, starless(s, p), s, starless(s, q)) & !same_text(s, p, s, q)
-}
-
-// Whether one of the names is this one in its other writing.
-pub fn clashes(s: &[u8], p: Span, names: Names) -> bool
-    requires { Sought s.now p names }
-    ensures { result ≡ clashes (text_at s.now p) (names_of s.now names) }
-{
-    let n = names.n;
-    let mut i = 0;
-    while i < n {
-        if differ_by_star(s, p, names.spans[i]) {
-            return true;
-        }
-        i += 1;
-    }
-    false
+    (starless(a) == starless(b)) & (a != b)
 }

@@ -1,46 +1,24 @@
 -- Clearing: text from the start of a slice that fits, and zeros throughout where it does not.
 --
--- In order: the whole text; zeros up to a place, and throughout; a text, once it is written, that fits or does not. Assumes nothing.
+-- In order: the whole text; a text, once it is written, that fits or does not. Assumes nothing.
 use Prim.Native.Nat.{ℕ, ◌+◌, ◌<◌, ◌≤◌}
 use native.Mathlib.Omega.{arith}
 use native.Mathlib.Decide.{dec_lt}
 use mathlib.Core.Bool.{Bool, true, cond}
 use mathlib.Core.Path.{◌≡◌, ◌∙◌}
-use mathlib.Core.List.{List, ◌++◌, append-nil}
+use mathlib.Core.List.{List, ◌++◌}
 use lib.Dec.{leb}
-use lib.ListN.{length, set, drop, replicate, length-replicate, replicate-append-replicate}
-use lib.Seq.{sets-eq, drop-length}
+use lib.ListN.{length, drop, replicate}
+use lib.Seq.{sets-eq}
 use borrow.Author.Tests.{le-leb, lt-leb}
 use Rattle.tables.proofs.Tests.{true-not-false}
 use Rattle.sheet_writer.specs.inner.Written.{Put, Fits}
-use Rattle.sheet_writer.proofs.Putting.{put-nothing, put_one, put_same, put-size, put_then}
+use Rattle.sheet_writer.proofs.Putting.{put-size}
 
 pub put_whole : {before after text : List ℕ} {r : ℕ} → Put before after 0 text r → length text ≤ length before → after ≡ text ++ drop (length text) before
 put_whole {before} {after} {text} p h =
     let z : 0 + length text ≡ length text = omega arith in
     p.bytes ∙ sets-eq text before 0 (omega arith) ∙ rw z
-
--- the first i bytes are zeros
-pub record Clearing (before after : List ℕ) (i : ℕ) : Type 0 where
-  pub up_to : i ≤ length before
-  pub put : Put before after 0 (replicate i 0) i
-
-pub clearing-start : (out : List ℕ) → Clearing out out 0
-clearing-start out = record { up_to = omega arith; put = put-nothing out 0 }
-
-module _ {before after : List ℕ} {i : ℕ} (c : Clearing before after i) where
-  pub clearing-more : i < length after → Clearing before (set after i 0) (i + 1)
-  clearing-more h =
-      let s = put-size c.put in
-      record { up_to = omega arith; put = put_same (replicate-append-replicate i 1 0) (put_then c.put (put_one after i 0)) }
-
-  pub clearing-end : length after ≤ i → after ≡ replicate (length before) 0
-  clearing-end h =
-      let u = c.up_to in
-      let s = put-size c.put in
-      let n = length-replicate {A = ℕ} i 0 in
-      let z : i ≡ length before = omega arith in
-      put_whole c.put (omega arith) ∙ rw (n, z, drop-length) (append-nil (replicate (length before) 0))
 
 -- ---- a text, once it is written
 

@@ -1,6 +1,6 @@
 -- Digits: a number's digits are those of its tenth, then its last one.
 --
--- In order: digits before others; how many are enough; a number below 10, and one of more digits; how many there are. Assumes nothing.
+-- In order: digits before others; how many are enough; a number below 10, and one of more digits; digits that are counted; how many there are. Assumes nothing.
 use Prim.Native.Nat.{ℕ, zero, suc, ◌+◌, ◌/◌, ◌%◌, ◌^◌, ◌<◌, ◌≤◌}
 use native.Mathlib.Omega.{arith}
 use native.Mathlib.Nat.{pow-suc}
@@ -9,7 +9,7 @@ use mathlib.Core.Bool.{Bool, true, false, cond}
 use mathlib.Core.List.{List, [], ◌∷◌, ◌++◌, append_assoc}
 use native.Mathlib.Decide.{dec_lt}
 use lib.Dec.{ltb}
-use lib.ListN.{length}
+use lib.ListN.{length, length-append}
 use borrow.Author.Tests.{lt-ltb, le-ltb}
 use Rattle.limits.specs.Limits.{largest_object, most_digits}
 use Rattle.sheet_text.specs.Text.{digits_before, digits}
@@ -52,6 +52,27 @@ digits_more n h k =
     ap (λ (ds : List ℕ). ds ++ ((48 + n % 10) ∷ [])) (before-enough 8 (n / 10) [] (omega arith))
     ∙ sym (before-append 9 (n / 10) ((48 + n % 10) ∷ []))
     ∙ sym (before_more 9 n [] h)
+
+-- ---- the digits of a number, counted
+
+-- c digits of n are counted, or one more where m has one
+pub record Counting (n m c : ℕ) : Type 0 where
+  pub small : m < 2 ^ 32
+  pub count : c + length (digits m) ≡ 1 + length (digits n)
+  pub less : c + m ≤ 1 + n
+
+pub counting-start : (n : ℕ) → n < 2 ^ 32 → Counting n n 1
+counting-start n h = record { small = h; count = refl; less = omega arith }
+
+module _ {n m c : ℕ} (k : Counting n m c) where
+  pub counting_more : 10 ≤ m → Counting n (m / 10) (c + 1)
+  counting_more h =
+      let e = ap length (digits_more m h k.small) in
+      let l = length-append (digits (m / 10)) ((48 + m % 10) ∷ []) in
+      record { small = omega (arith, k.small); count = omega (arith, k.count); less = omega (arith, k.less) }
+
+  pub counting-end : m < 10 → c ≡ length (digits n)
+  counting-end h = let e = ap length (digits-one m h) in omega (arith, k.count)
 
 -- ---- how many there are
 

@@ -14,27 +14,27 @@ pub loop-i-init : goal.loop-i-init
 loop-i-init c =
     let a = c.args in (omega arith, rw (each_all node_of node_width a.words.now head_width a.n))
 
-pub returns-then-v-eq1 : goal.returns-then-v-eq1
+pub returns-then-read-eq1 : goal.returns-then-read-eq1
 unfolding any is_picked
-returns-then-v-eq1 c =
+returns-then-read-eq1 c =
     let turn :
     let a = c.args in
-    any is_picked (c.read_node-v.result ∷ each_from node_of node_width a.words.now head_width a.n (c.loop-i.i + 1)) ≡ any is_picked
+    any is_picked (c.read.result ∷ each_from node_of node_width a.words.now head_width a.n (c.loop-i.i + 1)) ≡ any is_picked
     (read_each node_of node_width a.n (drop head_width a.words.now)) =
     let a = c.args in
-    rw c.read_node-v.ensures (rw (each_more node_of node_width a.words.now head_width a.n c.loop-i.i c.loop-i-test.true) at c.loop-i.invariant.1) in
-    rw (eq-eqb _ _ c.if-v-eq1.true) at (turn)
+    rw c.read.ensures (rw (each_more node_of node_width a.words.now head_width a.n c.loop-i.i c.loop-i-test.true) at c.loop-i.invariant.1) in
+    rw (eq-eqb _ _ c.if-read-eq1.true) at (turn)
 
 pub loop-i-preserved : goal.loop-i-preserved
 unfolding any is_picked
 loop-i-preserved c =
     let turn :
     let a = c.args in
-    any is_picked (c.read_node-v.result ∷ each_from node_of node_width a.words.now head_width a.n (c.loop-i.i + 1)) ≡ any is_picked
+    any is_picked (c.read.result ∷ each_from node_of node_width a.words.now head_width a.n (c.loop-i.i + 1)) ≡ any is_picked
     (read_each node_of node_width a.n (drop head_width a.words.now)) =
     let a = c.args in
-    rw c.read_node-v.ensures (rw (each_more node_of node_width a.words.now head_width a.n c.loop-i.i c.loop-i-test.true) at c.loop-i.invariant.1) in
-    (omega (arith, c.loop-i-test.true), rw (ne_eqb _ _ c.if-v-eq1.false) at (turn))
+    rw c.read.ensures (rw (each_more node_of node_width a.words.now head_width a.n c.loop-i.i c.loop-i-test.true) at c.loop-i.invariant.1) in
+    (omega (arith, c.loop-i-test.true), rw (ne_eqb _ _ c.if-read-eq1.false) at (turn))
 
 pub returns : goal.returns
 unfolding any

@@ -1,13 +1,11 @@
 -- `feed::check_feed` meets its contract: the tests are taken in document 01's order, each answer at its own return. Assumes nothing.
-use mathlib.Core.Path.{◌≡◌, ◌∙◌, sym}
+use mathlib.Core.Path.{◌∙◌, sym}
 use Prim.Native.Nat.{◌*◌, ◌≤◌}
 use native.Mathlib.Omega.{arith}
 use Rattle.limits.specs.Limits.{most_tables, most_table_pairs}
-use Rattle.tables.specs.Lists.{total}
-use Rattle.feed.specs.Feed.{class_count, label_count, table_count, counts, check_counts}
+use Rattle.feed.specs.Feed.{class_count, label_count, table_count}
 use Rattle.answers.specs.Answers.{verdict_of}
-use Rattle.feed.specs.inner.Parts.{counts_found}
-use Rattle.feed.specs.declared.Counts.TheVariants.{Sum}
+use Rattle.answers.proofs.Refusing.{handed}
 use Rattle.feed.proofs.Checks.{Head, no-head, many-classes, many-labels, no-counts, count-over, wrong-length, right-length, sum-small, is-exact}
 use Rattle.feed.proofs.check_feed.Goals as goal
 
@@ -40,41 +38,41 @@ pub overflow_mul-sum : goal.overflow_mul-sum
 unfolding class_count label_count table_count
 overflow_mul-sum c =
     let head : Head c.args.feed.now = record { headed = omega arith; few_classes = omega arith; few_labels = omega arith; counted = omega arith } in
-    let summed : let feed = c.args.feed.now in Sum c.in-Sum.sum ≡ counts_found (check_counts 2 (counts feed)) (total (counts feed)) = sym c.in-Sum.is ∙ c.sum_counts.ensures in
-    let small : c.in-Sum.sum ≤ most_tables * most_table_pairs = sum-small _ (head) (summed) in
+    let summed = sym c.in_ok-sum.was ∙ c.sum_counts.ensures in
+    let small : c.in_ok-sum.sum ≤ most_tables * most_table_pairs = sum-small _ (head) (summed) in
     omega (arith, small)
 
-pub overflow_add-head-in-Sum : goal.overflow_add-head-in-Sum
+pub overflow_add-head-3 : goal.overflow_add-head-3
 unfolding class_count label_count table_count
-overflow_add-head-in-Sum c =
+overflow_add-head-3 c =
     let head : Head c.args.feed.now = record { headed = omega arith; few_classes = omega arith; few_labels = omega arith; counted = omega arith } in
-    let summed : let feed = c.args.feed.now in Sum c.in-Sum.sum ≡ counts_found (check_counts 2 (counts feed)) (total (counts feed)) = sym c.in-Sum.is ∙ c.sum_counts.ensures in
-    let small : c.in-Sum.sum ≤ most_tables * most_table_pairs = sum-small _ (head) (summed) in
+    let summed = sym c.in_ok-sum.was ∙ c.sum_counts.ensures in
+    let small : c.in_ok-sum.sum ≤ most_tables * most_table_pairs = sum-small _ (head) (summed) in
     omega (arith, small)
 
 pub returns-then-feed-head-2 : goal.returns-then-feed-head-2
 unfolding verdict_of class_count label_count table_count
 returns-then-feed-head-2 c =
     let head : Head c.args.feed.now = record { headed = omega arith; few_classes = omega arith; few_labels = omega arith; counted = omega arith } in
-    let summed : let feed = c.args.feed.now in Sum c.in-Sum.sum ≡ counts_found (check_counts 2 (counts feed)) (total (counts feed)) = sym c.in-Sum.is ∙ c.sum_counts.ensures in
+    let summed = sym c.in_ok-sum.was ∙ c.sum_counts.ensures in
     wrong-length _ (head) (summed) (λ e. omega (arith, c.if-feed-head-2.true))
 
 pub check_tables-requires : goal.check_tables-requires
 unfolding class_count label_count table_count
 check_tables-requires c =
     let head : Head c.args.feed.now = record { headed = omega arith; few_classes = omega arith; few_labels = omega arith; counted = omega arith } in
-    let summed : let feed = c.args.feed.now in Sum c.in-Sum.sum ≡ counts_found (check_counts 2 (counts feed)) (total (counts feed)) = sym c.in-Sum.is ∙ c.sum_counts.ensures in
+    let summed = sym c.in_ok-sum.was ∙ c.sum_counts.ensures in
     is-exact _ (head) (summed) (omega arith)
 
-pub returns-in-Over : goal.returns-in-Over
+pub returns-in_err-sum : goal.returns-in_err-sum
 unfolding verdict_of class_count label_count table_count
-returns-in-Over c =
+returns-in_err-sum c =
     let head : Head c.args.feed.now = record { headed = omega arith; few_classes = omega arith; few_labels = omega arith; counted = omega arith } in
-    count-over _ (head) (sym c.in-Over.is ∙ c.sum_counts.ensures)
+    handed c.from_residual.result _ c.from_residual.ensures.1 ∙ count-over _ head (sym c.in_err-sum.was ∙ c.sum_counts.ensures)
 
-pub returns-else-feed-head-2 : goal.returns-else-feed-head-2
+pub returns : goal.returns
 unfolding class_count label_count table_count
-returns-else-feed-head-2 c =
+returns c =
     let head : Head c.args.feed.now = record { headed = omega arith; few_classes = omega arith; few_labels = omega arith; counted = omega arith } in
-    let summed : let feed = c.args.feed.now in Sum c.in-Sum.sum ≡ counts_found (check_counts 2 (counts feed)) (total (counts feed)) = sym c.in-Sum.is ∙ c.sum_counts.ensures in
+    let summed = sym c.in_ok-sum.was ∙ c.sum_counts.ensures in
     c.check_tables.ensures ∙ right-length _ (head) (summed) (omega arith)

@@ -4,11 +4,11 @@ use Rattle.feed.specs.Feed.{table_count}
 use Rattle.feed.proofs.Words.{class-among}
 use Rattle.feed.proofs.class_table.Goals as goal
 
-pub table_span-requires : goal.table_span-requires
+pub table_words-requires : goal.table_words-requires
 unfolding table_count
-table_span-requires c =
+table_words-requires c =
     record { checked = c.requires.checked; there = omega arith }
 
 pub returns : goal.returns
 returns c =
-    rw (← class-among c.args.feed.now c.args.k c.requires.there) c.table_span.ensures
+    rw (← class-among c.args.feed.now c.args.k c.requires.there) c.table_words.ensures

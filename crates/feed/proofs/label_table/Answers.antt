@@ -14,12 +14,12 @@ unfolding class_count
 overflow_add-word c =
     let ok = feed-accepted _ c.requires.checked in omega arith
 
-pub table_span-requires : goal.table_span-requires
+pub table_words-requires : goal.table_words-requires
 unfolding class_count table_count
-table_span-requires c =
+table_words-requires c =
     record { checked = c.requires.checked; there = omega arith }
 
 pub returns : goal.returns
 unfolding class_count
 returns c =
-    rw (← label-among c.args.feed.now c.args.k, ← c.word.ensures) c.table_span.ensures
+    rw (← label-among c.args.feed.now c.args.k, ← c.word.ensures) c.table_words.ensures

@@ -2,6 +2,7 @@
 use mathlib.Core.Path.{◌∙◌, ap}
 use Rattle.tables.specs.declared.Pair.{Pair}
 use Rattle.tables.specs.Order.{compare_pair, is_less}
+use Rattle.tables.proofs.Pairs.{below}
 use Rattle.feed.proofs.Pairs.{above-none, above-one}
 use Rattle.feed.proofs.rises.Goals as goal
 
@@ -12,6 +13,7 @@ returns-then-j-eq0 c =
 pub returns : goal.returns
 returns c =
     let a = c.args in
-    c.is_below.ensures
+    c.lt.ensures
+    ∙ below c.pair_from.result a.p
     ∙ ap (λ (q : Pair). is_less (compare_pair q a.p)) c.pair_from.ensures
     ∙ above-one a.feed.now a.at a.j a.p c.if-j-eq0.false

@@ -1,17 +1,16 @@
 -- Parts: what the parts of the feed's check are given and answer.
 --
--- In order: a pair, and the pair before it; what a pair must be; a table passed at one go; pairs inside the feed; the counts; a table of a feed that was accepted, and where it stands.
+-- In order: a pair, and the pair before it; what a pair must be; a table passed at one go; pairs inside the feed; the counts; a table of a feed that was accepted, and its words.
 -- Assumes nothing.
-use Rattle.std.specs.Prelude.{◌≡◌, Bool, true, not, ◌&&◌, ◌||◌, List, [], ◌∷◌, ℕ, zero, suc, ◌+◌, ◌*◌, ◌<◌, ◌≤◌, eqb, leb, length, get_or, take, drop}
+use Rattle.std.specs.Prelude.{Result, Ok, Err, ◌≡◌, Bool, true, not, ◌&&◌, ◌||◌, List, [], ◌∷◌, ℕ, zero, suc, ◌+◌, ◌*◌, ◌<◌, ◌≤◌, eqb, leb, length, get_or, take, drop}
 use Rattle.limits.specs.Limits.{most_tables, most_table_pairs, largest_object}
 use Rattle.tables.specs.declared.Pair.{Pair}
 use Rattle.tables.specs.Lists.{total}
 use Rattle.tables.specs.Order.{Table, pair}
 use Rattle.answers.specs.Verdict.{Verdict, accepted, refused}
 use Rattle.feed.specs.Feed.{table_count, counts, pairs_of, above, check_pairs, check_feed}
-use Rattle.feed.specs.declared.Counts.{Counts}
-use Rattle.feed.specs.declared.Counts.TheVariants.{Sum, Over}
-use Rattle.feed.specs.declared.Span.{Span}
+use Rattle.answers.specs.declared.Refusal.{Refusal}
+use Rattle.answers.specs.declared.Refusal.TheVariants.{Ceiling}
 
 -- the pair whose left word is at i
 abbrev pub pair_from : List ℕ → ℕ → Pair
@@ -71,9 +70,9 @@ pub record HasTable (feed : List ℕ) (k : ℕ) : Type 0 where
   pub there : k < table_count feed
 
 -- the sum of the pair counts where their check accepts them, else the place of the first that it refuses
-unfoldable pub counts_found : Verdict → ℕ → Counts
-counts_found accepted sum = Sum sum
-counts_found (refused n p) sum = Over p
+unfoldable pub counts_found : Verdict → ℕ → Result ℕ Refusal
+counts_found accepted sum = Ok sum
+counts_found (refused n p) sum = Err (Ceiling p)
 
 -- the length is that which the counts give, and every place fits a word
 pub record Exact (feed : List ℕ) : Type 0 where
@@ -86,8 +85,11 @@ pub record Among (feed : List ℕ) (n k : ℕ) : Type 0 where
   pub checked : check_feed feed ≡ accepted
   pub there : k < n
 
--- the table t stands in the feed at the span s
-pub record SpanOf (feed : List ℕ) (t : Table) (s : Span) : Type 0 where
-  pub inside : s.start + 2 * s.count ≤ length feed
-  pub short : s.count ≤ most_table_pairs
-  pub pairs : take s.count (pairs_of (drop s.start feed)) ≡ t
+-- these words, the part of the feed from `start` on, are those of the table t
+pub record TableOf (feed : List ℕ) (t : Table) (words : List ℕ) : Type 0 where
+  pub start : ℕ
+  pub part : words ≡ take (2 * length t) (drop start feed)
+  pub inside : start + length words ≤ length feed
+  pub even : length words ≡ 2 * length t
+  pub short : length t ≤ most_table_pairs
+  pub pairs : pairs_of words ≡ t

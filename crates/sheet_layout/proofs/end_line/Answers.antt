@@ -8,4 +8,4 @@ use Rattle.sheet_layout.proofs.end_line.Goals as goal
 
 pub returns : goal.returns
 returns c =
-    put_then (put_same (ap (λ (m : ℕ). replicate (column_width * m) 32) c.left_of-blank.ensures) c.put_spaces-k.ensures) c.put_byte.ensures
+    put_then (put_same (ap (λ (m : ℕ). replicate (column_width * m) 32) c.saturating_sub-blank.ensures) c.put_spaces-k.ensures) c.put_byte.ensures

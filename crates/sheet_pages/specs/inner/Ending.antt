@@ -9,9 +9,9 @@ use Rattle.drawing.specs.Builder.{view}
 use Rattle.drawing.specs.Drawing.{Pattern}
 use Rattle.drawing.specs.Embeddings.{rows}
 use Rattle.query_answer.specs.Query.{pick_count}
-use Rattle.sheet_text.specs.declared.Names.{Names}
+use Rattle.sheet_text.specs.declared.names.Names.{Names}
+use Rattle.sheet_text.specs.inner.Parts.{names_of}
 use Rattle.sheet_writer.specs.Picked.{picked_names}
-use Rattle.sheet_writer.specs.inner.Written.{Named}
 use Rattle.sheet_layout.specs.Pages.{pages}
 use Rattle.sheet_pages.specs.SheetPages.{Paged, paged, check_pages}
 
@@ -30,7 +30,7 @@ unfoldable pub refused_pages : Verdict → List ℕ → Paged
 refused_pages v buffer = record { verdict = v; length' = 0; buffer = cond (eqb (number v) 12) (replicate (length buffer) 0) buffer }
 
 -- names for the nodes, and no more picks than columns
-pub record Narrow (sheet : List ℕ) (x : Names) (d : Drawing) (picks : ℕ) : Type 0 where
-  pub named : Named sheet x d
+pub record Narrow (x : Names) (d : Drawing) (picks : ℕ) : Type 0 where
+  pub named : length (names_of x) ≡ length (view d).nodes
   pub picked : picks ≡ pick_count (view d)
   pub few : picks ≤ most_columns

@@ -1,32 +1,35 @@
 -- `sheet_reader::put_counts` meets its contract. Assumes nothing.
-use mathlib.Core.Path.{◌≡◌, ap, sym}
-use mathlib.Core.List.{[], ◌∷◌, ◌++◌, map}
-use Prim.Native.Nat.{◌+◌}
+use mathlib.Core.Path.{ap, sym}
+use mathlib.Core.List.{[], ◌∷◌, map}
+use native.Mathlib.Omega.{arith}
 use lib.ListN.{length}
 use Rattle.tables.proofs.Putting.{putting-start, putting-same, putting-more, putting-room, putting-end}
-use Rattle.sheet_lines.specs.inner.State.{entries}
-use Rattle.sheet_reader.specs.inner.Answers.{tables_in}
-use Rattle.sheet_reader.proofs.Grouping.{tables_from, tables-all, tables_more, tables-done}
-use native.Mathlib.Omega.{arith}
+use Rattle.sheet_text.proofs.Finding.{length-names}
+use Rattle.sheet_lines.specs.inner.State.{tables_read}
+use Rattle.sheet_reader.specs.Sheet.{tables_of}
+use Rattle.sheet_reader.proofs.Grouping.{tables-all, tables_more, tables-done}
 use Rattle.sheet_reader.proofs.put_counts.Goals as goal
 
 pub loop-k-init : goal.loop-k-init
-unfolding tables_in
+unfolding tables_of tables_read
 loop-k-init c =
-    (putting-same (sym (ap (map length) (tables-all _ _))) (putting-start _ _ _), omega arith)
+    putting-same (sym (ap (map length) (tables-all _ _))) (putting-start _ _ _)
 
-pub put_word-out-requires : goal.put_word-out-requires
-put_word-out-requires c =
-    let es = entries c.args.rows.now c.args.t.lines in
-    let more : map length (tables_from es c.args.t.names.n c.loop-k.k) ≡ (c.count_lines-n.result ∷ []) ++ map length (tables_from es c.args.t.names.n (c.loop-k.k + 1)) =
-    rw (tables_more es _ _ c.loop-k-test.true, c.count_lines-n.ensures) in
-    let r = putting-room (c.count_lines-n.result ∷ []) _ more c.loop-k.invariant.0 c.requires.room in
+pub overflow_cast-k : goal.overflow_cast-k
+overflow_cast-k c =
+    let x = c.args.t.now.names in
+    omega (arith, c.loop-k-test.true, c.len-k-end.ensures, length-names x, x.few)
+
+pub put_words-out-requires : goal.put_words-out-requires
+put_words-out-requires c =
+    let more = ap (map length) (tables_more (tables_read c.args.t.now).lines _ c.loop-k.k (rw c.len-k-end.ensures at c.loop-k-test.true)) in
+    let r = putting-room (_ ∷ []) _ more c.loop-k.invariant c.requires.room in
     omega arith
 
 pub loop-k-preserved : goal.loop-k-preserved
 loop-k-preserved c =
-    (putting-more (rw (tables_more _ _ _ c.loop-k-test.true, c.count_lines-n.ensures)) c.loop-k.invariant.0 c.put_word-out.ensures, omega arith)
+    putting-more (ap (map length) (tables_more _ _ c.loop-k.k (rw c.len-k-end.ensures at c.loop-k-test.true))) c.loop-k.invariant (rw (c.count_lines.ensures, c.entries.ensures) at c.put_words-out.ensures)
 
 pub returns : goal.returns
 returns c =
-    putting-end (putting-same (ap (map length) (tables-done _ _ _ c.loop-k-test.false)) c.loop-k.invariant.0)
+    putting-end (putting-same (ap (map length) (tables-done _ _ _ (rw c.len-k-end.ensures at c.loop-k-test.false))) c.loop-k.invariant)

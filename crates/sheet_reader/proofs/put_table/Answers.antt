@@ -1,36 +1,31 @@
 -- `sheet_reader::put_table` meets its contract. Assumes nothing.
-use mathlib.Core.Path.{ap, sym}
+use mathlib.Core.Path.{ap}
 use mathlib.Core.List.{[], ◌∷◌}
-use Prim.Native.Nat.{◌+◌, ◌*◌}
-use lib.ListN.{get_or}
-use Rattle.tables.specs.Slices.{table_words}
-use Rattle.tables.proofs.Putting.{putting-start, putting-same, putting-more, putting-room, putting-end}
-use Rattle.sheet_reader.proofs.Grouping.{lines-all, lines-in, lines-out, lines-done}
 use native.Mathlib.Omega.{arith}
+use Rattle.tables.specs.Slices.{table_words}
+use Rattle.tables.proofs.Putting.{putting-same, putting-more, putting-room, putting-end}
+use Rattle.sheet_reader.proofs.Grouping.{lines-in, lines-out, lines-done}
 use Rattle.sheet_reader.proofs.put_table.Goals as goal
+use Rattle.sheet_reader.proofs.put_table.Goals.{then-x-k, else-x-k}
 
-pub loop-i-init : goal.loop-i-init
-loop-i-init c =
-    (putting-same (sym (ap table_words (lines-all _ _ c.requires.held.inside _))) (putting-start _ _ _), omega arith)
-
-pub put_two-out-requires : goal.put_two-out-requires
+pub put_words-out-requires : goal.put_words-out-requires
 unfolding table_words
-put_two-out-requires c =
-    let ws = c.args.rows.now in
-    let e = lines-in ws _ c.requires.held.inside _ c.loop-i.i c.loop-i-test.true c.if-rows-j.true in
-    let r = putting-room (get_or ws (3 * c.loop-i.i + 1) 0 ∷ get_or ws (3 * c.loop-i.i + 2) 0 ∷ []) _ (ap table_words e) c.loop-i.invariant.0 c.requires.room in
+put_words-out-requires c =
+    let e = lines-in c.args.k c.args.entries.now c.loop-x.x-index c.loop-x-test.true c.if-x-k.true in
+    let r = putting-room (_ ∷ _ ∷ []) _ (ap table_words e) c.loop-x.invariant c.requires.room in
     omega arith
 
-pub loop-i-preserved-then-rows-j : goal.loop-i-preserved-then-rows-j
+pub loop-x-preserved : goal.loop-x-preserved
 unfolding table_words
-loop-i-preserved-then-rows-j c =
-    (putting-more (ap table_words (lines-in _ _ c.requires.held.inside _ _ c.loop-i-test.true c.if-rows-j.true)) c.loop-i.invariant.0 c.put_two-out.ensures, omega arith)
-
-pub loop-i-preserved : goal.loop-i-preserved
-loop-i-preserved c =
-    (putting-same (ap table_words (lines-out _ _ c.requires.held.inside _ _ c.loop-i-test.true c.if-rows-j.false)) c.loop-i.invariant.0, omega arith)
+loop-x-preserved c =
+    elim c.if-x-k.branch [
+      | then-x-k w ↦
+          rw (w.words-is, w.out-is) (putting-more (ap table_words (lines-in c.args.k c.args.entries.now c.loop-x.x-index c.loop-x-test.true w.if-x-k.true)) c.loop-x.invariant w.put_words-out.ensures)
+      | else-x-k w ↦
+          rw (w.words-is, w.out-is) (putting-same (ap table_words (lines-out c.args.k c.args.entries.now c.loop-x.x-index c.loop-x-test.true w.if-x-k.false)) c.loop-x.invariant)
+    ]
 
 pub returns : goal.returns
 unfolding table_words
 returns c =
-    putting-end (putting-same (ap table_words (lines-done _ _ c.requires.held.inside _ _ c.loop-i-test.false)) c.loop-i.invariant.0)
+    putting-end (putting-same (ap table_words (lines-done c.args.k c.args.entries.now c.loop-x.x-index c.loop-x-test.false)) c.loop-x.invariant)

@@ -1,14 +1,9 @@
--- `sheet_reader::put_table` meets its contract. Assumes nothing.
-use Prim.Native.Nat.{◌-◌, ◌≤◌}
+-- `sheet_reader::put_table` meets its contract. The loop's invariant: the pairs of the lines passed are written. Assumes nothing.
+use lib.ListN.{drop}
 use Rattle.tables.specs.Slices.{table_words}
 use Rattle.tables.proofs.Putting.{Putting}
-use Rattle.sheet_lines.specs.inner.State.{entries}
 use Rattle.sheet_reader.specs.Sheet.{lines_of}
-use Rattle.sheet_reader.proofs.Grouping.{lines_from}
 use Rattle.sheet_reader.proofs.put_table.Given as goal
 
-abbrev pub invariant-loop-i : goal.invariant-loop-i
-invariant-loop-i l = (Putting l.initial.words l.words l.at l.out (table_words (lines_of l.k (entries l.rows l.lines))) (table_words (lines_from l.rows l.lines l.k l.i))) × (l.i ≤ l.lines)
-
-abbrev pub decreases-loop-i : goal.decreases-loop-i
-decreases-loop-i l = l.lines - l.i
+abbrev pub invariant-loop-x : goal.invariant-loop-x
+invariant-loop-x l = Putting l.initial.words l.words l.at l.out (table_words (lines_of l.k l.entries)) (table_words (lines_of l.k (drop l.x-index l.entries)))

@@ -1,40 +1,31 @@
 -- `sheet_reader::read_lines` meets its contract. Assumes nothing.
-use mathlib.Core.Path.{refl}
-use borrow.Author.Tests.{not-true, not-false}
-use Rattle.sheet_reader.proofs.Lines.{too_long, lines_start, unended, line-passes, line-breaks, all_read, ends-early}
-use native.Mathlib.Omega.{arith}
+use Rattle.sheet_reader.proofs.Lines.{too-long, lines-start, line-ready, line-passes, line-breaks, all-read, ends-early}
 use Rattle.sheet_reader.proofs.read_lines.Goals as goal
 
-pub returns-then-n-gt-SHEET_BYTES : goal.returns-then-n-gt-SHEET_BYTES
-returns-then-n-gt-SHEET_BYTES c =
-    rw c.empty-x.ensures (too_long _ _ _ c.if-n-gt-SHEET_BYTES.true)
+pub returns-then-sheet-gt-SHEET_BYTES : goal.returns-then-sheet-gt-SHEET_BYTES
+returns-then-sheet-gt-SHEET_BYTES c =
+    too-long _ c.if-sheet-gt-SHEET_BYTES.true
 
-pub loop-a-init : goal.loop-a-init
-loop-a-init c =
-    rw c.empty-x.ensures (lines_start _ _ _ c.if-n-gt-SHEET_BYTES.false, refl)
+pub loop-line-init : goal.loop-line-init
+loop-line-init c =
+    lines-start _ c.if-sheet-gt-SHEET_BYTES.false c.requires
 
-pub returns-then-e-n : goal.returns-then-e-n
-returns-then-e-n c =
-    let g = c.loop-a.invariant in
-    let found = rw g.1 at c.cut-e.ensures in
-    unended g.0 (omega (arith, g.1)) found (omega (arith, g.1))
+pub read_line-requires : goal.read_line-requires
+read_line-requires c =
+    line-ready c.loop-line.invariant c.in-Some.ensures
 
-pub returns-then-not-step : goal.returns-then-not-step
-returns-then-not-step c =
-    let g = c.loop-a.invariant in
-    let found = rw g.1 at c.cut-e.ensures in
-    line-breaks g.0 found (omega (arith, g.1, c.cut-e.ensures.up_to)) c.read_line-step.ensures (not-true _ c.if-not-step.true)
+pub returns-then-is_none : goal.returns-then-is_none
+returns-then-is_none c =
+    line-breaks c.loop-line.invariant c.in-Some.ensures c.read_line.ensures (rw c.if-is_none.true at c.is_none.ensures)
 
-pub loop-a-preserved : goal.loop-a-preserved
-loop-a-preserved c =
-    let g = c.loop-a.invariant in
-    let found = rw g.1 at c.cut-e.ensures in
-    (line-passes g.0 found (omega (arith, g.1, c.cut-e.ensures.up_to)) c.read_line-step.ensures (not-false _ c.if-not-step.false), g.1)
+pub loop-line-preserved : goal.loop-line-preserved
+loop-line-preserved c =
+    line-passes c.loop-line.invariant c.in-Some.ensures c.read_line.ensures (rw c.if-is_none.false at c.is_none.ensures)
 
-pub returns-then-x : goal.returns-then-x
-returns-then-x c =
-    let g = c.loop-a.invariant in all_read g.0 (omega (arith, g.1)) c.if-x.true
+pub returns-then-ended-is_complete : goal.returns-then-ended-is_complete
+returns-then-ended-is_complete c =
+    all-read c.loop-line.invariant c.in_default.ensures (rw (c.is_empty-ended.ensures, c.is_complete.ensures) at c.if-ended-is_complete.true)
 
 pub returns : goal.returns
 returns c =
-    let g = c.loop-a.invariant in ends-early g.0 (omega (arith, g.1)) c.if-x.false
+    ends-early c.loop-line.invariant c.in_default.ensures (rw (c.is_empty-ended.ensures, c.is_complete.ensures) at c.if-ended-is_complete.false)

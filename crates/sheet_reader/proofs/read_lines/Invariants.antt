@@ -1,12 +1,10 @@
--- `sheet_reader::read_lines` meets its contract. Assumes nothing.
-use mathlib.Core.Path.{◌≡◌}
-use Prim.Native.Nat.{◌-◌}
+-- `sheet_reader::read_lines` meets its contract. The loop's invariant: reading the rest from the state is reading the sheet. Assumes nothing.
 use lib.ListN.{length}
 use Rattle.sheet_reader.proofs.Lines.{Going}
 use Rattle.sheet_reader.proofs.read_lines.Given as goal
 
-abbrev pub invariant-loop-a : goal.invariant-loop-a
-invariant-loop-a l = (Going l.s l.initial.classes l.initial.labels l.classes l.labels l.at l.a l.x) × (l.n ≡ length l.s)
+abbrev pub invariant-loop-line : goal.invariant-loop-line
+invariant-loop-line l = Going l.sheet l.rest l.at l.state
 
-abbrev pub decreases-loop-a : goal.decreases-loop-a
-decreases-loop-a l = l.n - l.a
+abbrev pub decreases-loop-line : goal.decreases-loop-line
+decreases-loop-line l = length l.rest

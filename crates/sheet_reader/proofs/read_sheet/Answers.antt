@@ -1,21 +1,30 @@
 -- `sheet_reader::read_sheet` meets its contract. Assumes nothing.
-use mathlib.Core.Path.{◌∙◌, sym, ap}
-use Rattle.answers.specs.Verdict.{is_accepted}
-use Rattle.tables.proofs.Tests.{true-not-false}
-use Rattle.answers.proofs.Verdict.{accepted-is}
-use Rattle.std.proofs.Common.{rules}
-use Rattle.sheet_reader.specs.inner.Answers.{Feedable}
-use Rattle.sheet_reader.proofs.Words.{sheet-given}
+use Rattle.std.specs.Result.{IfOk, IsErr}
+use Rattle.std.specs.Prelude.{Result, Ok, Err}
+use mathlib.Core.Path.{◌∙◌}
+use Rattle.std.proofs.lemmas.Bool.{false≢true}
+use Rattle.answers.specs.Answers.{verdict_of}
+use Rattle.answers.proofs.Refusing.{handed}
+use Rattle.sheet_reader.proofs.Words.{feedable, sheet-given}
 use Rattle.sheet_reader.proofs.read_sheet.Goals as goal
 
-pub returns-then-accepts : goal.returns-then-accepts
-returns-then-accepts c =
-    let g = c.read_lines-scan.ensures in
-    let asked : Feedable c.args.feed.now c.args.s.now c.read_lines-scan.new.classes c.read_lines-scan.new.labels c.read_lines-scan.result.state.classes c.read_lines-scan.result.state.labels = search rules in
-    let ok = accepted-is _ (sym c.accepts.ensures ∙ c.if-accepts.true) in
-    record { verdict = g.verdict; given = λ h. sheet-given g ok asked c.put_feed-n.ensures }
+none-given : {T E : Type 0} (r : Result T E) (P : T → Type 0) → IsErr r → IfOk r P
+none-given (Ok x) P h = absurd (false≢true h)
+none-given (Err e) P h = tt
+
+pub returns-in_err-read_lines : goal.returns-in_err-read_lines
+unfolding verdict_of
+returns-in_err-read_lines c =
+    let g = c.in_err-read_lines.ensures in
+    record { verdict = handed _ _ c.from_residual.ensures.1 ∙ g.verdict; given = none-given _ _ c.from_residual.ensures.0 }
+
+pub put_feed-n-requires : goal.put_feed-n-requires
+put_feed-n-requires c =
+    let g = c.in_ok-read_lines.ensures in
+    feedable g.whole _ c.requires
 
 pub returns : goal.returns
-unfolding is_accepted
+unfolding verdict_of
 returns c =
-    record { verdict = c.read_lines-scan.ensures.verdict; given = λ h. absurd (true-not-false (ap is_accepted h) (sym c.accepts.ensures ∙ c.if-accepts.false)) }
+    let g = c.in_ok-read_lines.ensures in
+    record { verdict = g.verdict; given = sheet-given g.whole c.requires c.put_feed-n.ensures }

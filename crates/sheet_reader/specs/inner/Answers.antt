@@ -1,27 +1,24 @@
 -- Answers: what the reader finds in a sheet, and the words that it writes.
 --
--- In order: the state before the first line; what the reading of all lines promises; the feed's words, written one behind the other; what the
--- reading of a sheet promises. Assumes nothing.
-use Rattle.std.specs.Prelude.{ℕ, ◌+◌, ◌*◌, ◌/◌, ◌≤◌, ◌≡◌, false, List, map, length, take}
-use Rattle.limits.specs.Limits.{most_classes, most_labels, most_tables, most_nodes}
+-- In order: what the reading of all lines promises; the feed's words, written one behind the other; what the reading of a sheet promises.
+-- Assumes nothing.
+use Rattle.std.specs.Prelude.{ℕ, ◌+◌, ◌*◌, ◌≤◌, ◌≡◌, List, length, take, Result}
+use Rattle.std.specs.Result.{IfOk}
+use Rattle.limits.specs.Limits.{most_tables, most_nodes, most_classes, most_labels}
 use Rattle.answers.specs.Verdict.{Verdict, accepted, refused}
 use Rattle.answers.specs.Answers.{verdict_of}
-use Rattle.tables.specs.Order.{Table}
+use Rattle.answers.specs.declared.Refusal.{Refusal}
 use Rattle.tables.specs.Slices.{table_words}
-use Rattle.feed.specs.Feed.{Label, label_word}
-use Rattle.drawing.specs.Builder.{empty_drawing, view}
-use Rattle.sheet_text.specs.declared.Span.{Span}
-use Rattle.sheet_text.specs.inner.Parts.{Inside, names_of, no_names, Spans}
-use Rattle.sheet_lines.specs.declared.Tables.{Tables}
+use Rattle.drawing.specs.Builder.{view}
+use Rattle.sheet_text.specs.inner.Parts.{names_of}
+use Rattle.sheet_lines.specs.declared.Entry.{Entry}
+use Rattle.sheet_lines.specs.declared.entries.Tables.{Tables}
 use Rattle.sheet_lines.specs.declared.State.{State}
 use Rattle.sheet_lines.specs.Reading.{Reading}
-use Rattle.sheet_lines.specs.inner.State.{entries, tables_read, view_of, line_words, Fine, Held}
-use Rattle.sheet_reader.specs.Sheet.{Outcome, read, breach, read_sheet, lines_of, grouped, labels_of, feed_of}
-use Rattle.sheet_reader.specs.declared.Scan.{Scan}
+use Rattle.sheet_lines.specs.inner.Lines.{most_lines}
+use Rattle.sheet_lines.specs.inner.State.{tables_read, view_of, line_count, Fine}
+use Rattle.sheet_reader.specs.Sheet.{Outcome, read, breach, read_sheet, lines_of, feed_of}
 use Rattle.sheet_reader.specs.declared.SheetRead.{SheetRead}
-
-unfoldable pub no_state : State
-no_state = record { section = 0; opened = false; classes = record { names = no_names; lines = 0 }; labels = record { names = no_names; lines = 0 }; nodes = no_names; drawing = empty_drawing }
 
 -- "14, with the line counted from 1"
 unfoldable pub verdict_in : Outcome → Verdict
@@ -30,84 +27,53 @@ verdict_in (breach at) = refused 14 at
 
 -- ---- all lines
 
--- the most lines of classes and labels together
-abbrev pub most_lines : ℕ
-most_lines = line_words / 3
+-- a state that holds what the sheet gives
+pub record Whole (s : List ℕ) (x : State) : Type 0 where
+  pub shown : read_sheet s ≡ read (view_of x)
+  pub fine : Fine x
+  pub few : line_count x ≤ most_lines
 
--- what the lines are, and what was read, with the lines of the classes and of the labels in two slices
-pub record Scanned (s ws vs : List ℕ) (r : Scan) : Type 0 where
-  pub verdict : verdict_of r.answer ≡ verdict_in (read_sheet s)
-  pub shown : verdict_of r.answer ≡ accepted → read_sheet s ≡ read (view_of s ws vs r.state)
-  pub fine : Fine s (length s + 1) r.state
-  pub few : r.state.classes.lines + r.state.labels.lines ≤ most_lines
+-- whether the lines are as they should be, and the state that they leave
+pub record Scanned (s : List ℕ) (x : State) (r : Result (Unit {0}) Refusal) : Type 0 where
+  pub verdict : verdict_of r ≡ verdict_in (read_sheet s)
+  pub whole : IfOk r (λ (u : Unit {0}). Whole s x)
 
 -- ---- the feed
 
--- the tables of the lines that stand in words
-unfoldable pub tables_in : List ℕ → Tables → List Table
-tables_in ws t = grouped (entries ws t.lines) t.names.n
+-- lines, and room for the pairs of table k of them from place `at` on
+pub record TableFits (words : List ℕ) (at : ℕ) (es : List Entry) (k : ℕ) : Type 0 where
+  pub room : at + length (table_words (lines_of k es)) ≤ length words
 
--- the labels of such lines, whose names are parts of the sheet
-unfoldable pub labels_in : List ℕ → List ℕ → Tables → List Label
-labels_in s ws t = labels_of (tables_read s ws t)
-
--- so many lines stand in the words
-pub record Lines (ws : List ℕ) (lines : ℕ) : Type 0 where
-  pub inside : 3 * lines ≤ length ws
-  pub few : lines ≤ most_lines
-
--- lines that stand in words, and room for table k of them from place `at` on
-pub record TableFits (words : List ℕ) (at : ℕ) (ws : List ℕ) (lines k : ℕ) : Type 0 where
-  pub held : Lines ws lines
-  pub room : at + length (table_words (lines_of k (entries ws lines))) ≤ length words
-
--- a label's name, and lines that stand in words
-pub record LabelIn (s : List ℕ) (p : Span) (ws : List ℕ) (lines : ℕ) : Type 0 where
-  pub name : Inside s p
-  pub held : Lines ws lines
-
--- tables whose lines stand in words, and room for xs from place `at` on
-pub record Writable (words : List ℕ) (at : ℕ) (ws : List ℕ) (t : Tables) (xs : List ℕ) : Type 0 where
-  pub lines : Lines ws t.lines
-  pub few : t.names.n ≤ most_labels
+-- tables, and room for xs from place `at` on
+pub record Writable (words : List ℕ) (at : ℕ) (t : Tables) (xs : List ℕ) : Type 0 where
+  pub few : length (tables_read t).lines ≤ most_lines
   pub room : at + length xs ≤ length words
-
--- labels whose lines stand in words, their names, and room for their count words from place `at` on
-pub record LabelsFit (words : List ℕ) (at : ℕ) (s ws : List ℕ) (t : Tables) : Type 0 where
-  pub lines : Lines ws t.lines
-  pub names : Spans s t.names most_labels
-  pub room : at + length (map label_word (labels_in s ws t)) ≤ length words
 
 -- the most words of a feed that comes from a sheet: two, the counts of all tables, and two for each line
 abbrev pub feed_room : ℕ
 feed_room = 2 + most_tables + 2 * most_lines
 
--- classes and labels whose lines stand in words, and room for their feed
-pub record Feedable (words s ws vs : List ℕ) (c l : Tables) : Type 0 where
-  pub held : Held ws vs
+-- classes and labels, and room for their feed
+pub record Feedable (words : List ℕ) (c l : Tables) : Type 0 where
   pub room : feed_room ≤ length words
-  pub classes : c.names.n ≤ most_classes
-  pub labels : Spans s l.names most_labels
-  pub few : c.lines + l.lines ≤ most_lines
+  pub classes : length (names_of c.names) ≤ most_classes
+  pub labels : length (names_of l.names) ≤ most_labels
+  pub few : length (tables_read c).lines + length (tables_read l).lines ≤ most_lines
 
 -- ---- a sheet
 
-pub record Lent (feed classes labels : List ℕ) : Type 0 where
-  pub held : Held classes labels
-  pub room : feed_room ≤ length feed
-
--- What the sheet gives: the feed's words stand in front of the slice, and the node names are parts of the sheet.
+-- What the sheet gives: the feed's words stand in front of the slice.
 pub record Given (s feed : List ℕ) (w : SheetRead) : Type 0 where
   pub reading : Reading
   pub outcome : read_sheet s ≡ read reading
   pub feeds : take w.feed feed ≡ feed_of reading
   pub fits : w.feed ≤ length feed
   pub draws : view w.drawing ≡ reading.drawing
-  pub names : names_of s w.nodes ≡ reading.names
-  pub spans : Spans s w.nodes most_nodes
-  pub drawn : w.nodes.n ≡ w.drawing.n
+  pub names : names_of w.nodes ≡ reading.names
+  pub few : length (names_of w.nodes) ≤ most_nodes
+  pub drawn : length (view w.drawing).nodes ≡ length (names_of w.nodes)
 
 -- the answer for a sheet, and what it gives where that accepts
-pub record Answers (s feed : List ℕ) (w : SheetRead) : Type 0 where
-  pub verdict : verdict_of w.answer ≡ verdict_in (read_sheet s)
-  pub given : verdict_of w.answer ≡ accepted → Given s feed w
+pub record Answers (s feed : List ℕ) (r : Result SheetRead Refusal) : Type 0 where
+  pub verdict : verdict_of r ≡ verdict_in (read_sheet s)
+  pub given : IfOk r (Given s feed)

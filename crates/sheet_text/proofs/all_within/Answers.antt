@@ -1,19 +1,13 @@
--- `sheet_text::all_within` meets its contract. The loop's invariant: the bytes left pass as all do. Assumes nothing.
-use Rattle.sheet_text.proofs.Words.{too-low, too-high, is_within, range-stops, range-goes-on, range-ends}
+-- `sheet_text::all_within` meets its contract. Assumes nothing.
+use mathlib.Core.Path.{◌∙◌}
+use Rattle.std.proofs.Common.{rules, tests}
+use Rattle.std.proofs.lemmas.Iterator.{YieldsList-from_slice}
+use Rattle.std.proofs.lemmas.Iterator.Search.{all_from_yields_List}
+use Rattle.sheet_text.specs.Text.{within}
+use Rattle.sheet_text.proofs.Words.{all_is}
 use Rattle.sheet_text.proofs.all_within.Goals as goal
 
-pub returns-then-s-i : goal.returns-then-s-i
-returns-then-s-i c =
-    range-stops c.loop-i.invariant c.requires.ends c.loop-i-test.true (too-low _ _ _ c.if-s-i.true)
-
-pub returns-then-s-i-2 : goal.returns-then-s-i-2
-returns-then-s-i-2 c =
-    range-stops c.loop-i.invariant c.requires.ends c.loop-i-test.true (too-high _ _ _ c.if-s-i-2.true)
-
-pub loop-i-preserved : goal.loop-i-preserved
-loop-i-preserved c =
-    range-goes-on c.loop-i.invariant c.requires.ends c.loop-i-test.true (is_within _ _ _ c.if-s-i.false c.if-s-i-2.false)
-
 pub returns : goal.returns
+unfolding within
 returns c =
-    range-ends c.loop-i.invariant c.requires.ends c.loop-i-test.false
+    all_from_yields_List (within c.args.low c.args.high) _ _ _ c.all.ensures.ran (YieldsList-from_slice c.args.text.now cc) (λ x b q k. search (rules, tests)) ∙ all_is _ _

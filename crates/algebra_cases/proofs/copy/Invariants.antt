@@ -1,9 +1,0 @@
--- The slice keeps its length, and each turn leaves fewer words.
-use Rattle.std.proofs.Common.{length, ◌-◌, ◌≡◌}
-use Rattle.algebra_cases.proofs.copy.Given as goal
-
-abbrev pub invariant-loop-i : goal.invariant-loop-i
-invariant-loop-i l = length l.to ≡ length l.initial.to
-
-abbrev pub decreases-loop-i : goal.decreases-loop-i
-decreases-loop-i l = length l.from - l.i

@@ -1,0 +1,20 @@
+-- `sheet::sheet_query` meets its contract. Assumes nothing.
+use mathlib.Core.Path.{sym, ◌∙◌}
+use Rattle.sheet.proofs.Printing.{sheet-refused, whole-listed}
+use Rattle.sheet.proofs.sheet_query.Goals as goal
+
+pub slice_bounds-print_answer-end : goal.slice_bounds-print_answer-end
+slice_bounds-print_answer-end c =
+    let g = c.in-Ok.ensures in g.given.fits
+
+pub print_answer-requires : goal.print_answer-requires
+print_answer-requires c =
+    let g = c.in-Ok.ensures in sym g.given.drawn
+
+pub returns-in-Ok : goal.returns-in-Ok
+returns-in-Ok c =
+    let g = c.in-Ok.ensures in c.print_answer.ensures ∙ whole-listed g.given _
+
+pub returns-in-Err : goal.returns-in-Err
+returns-in-Err c =
+    c.write_refusal.ensures ∙ sheet-refused c.in-Err.ensures _

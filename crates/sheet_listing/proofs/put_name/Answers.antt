@@ -1,7 +1,0 @@
--- `sheet_listing::put_name` meets its contract: what stands before the field, then the name. Assumes nothing.
-use Rattle.sheet_writer.proofs.Putting.{put_then}
-use Rattle.sheet_listing.proofs.put_name.Goals as goal
-
-pub returns : goal.returns
-returns c =
-    put_then c.put_gap-k.ensures c.put_text.ensures
