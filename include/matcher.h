@@ -30,10 +30,10 @@
 #include <stddef.h>
 #include <stdint.h>
 
-#define MATCHER_VERSION "5.0.0"
+#define MATCHER_VERSION "5.0.1"
 #define MATCHER_VERSION_MAJOR 5
 #define MATCHER_VERSION_MINOR 0
-#define MATCHER_VERSION_PATCH 0
+#define MATCHER_VERSION_PATCH 1
 
 /* Words that take every translation: 876 instructions. */
 #define MATCHER_LIST_WORDS 2628

@@ -46,7 +46,7 @@ fn page(out: &mut [u8], input: &[u8], n: usize) -> usize
 {
     match sheet_pages(&input[0..n], out) {
         Ok(length) => length,
-        Err(refusal) => write_refusal(out, refusal),
+        Err(refusal) => write_refusal(out, Err(refusal)),
     }
 }
 

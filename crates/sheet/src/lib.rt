@@ -59,7 +59,7 @@ fn print_answer(out: &mut [u8], names: &Names, feed: &[u32], d: Drawing) -> usiz
             let picks = count_picks(&d);
             write_listing(out, &picked, &rows[0..n], picks)
         }
-        Err(refusal) => write_refusal(out, refusal),
+        Err(refusal) => write_refusal(out, Err(refusal)),
     }
 }
 
@@ -70,6 +70,6 @@ pub fn sheet_query(sheet: &[u8], listing: &mut [u8]) -> usize
     let mut feed = [0u32; FEED_WORDS];
     match read_sheet(&mut feed, sheet) {
         Ok(read) => print_answer(listing, &read.nodes, &feed[0..read.feed], read.drawing),
-        Err(refusal) => write_refusal(listing, refusal),
+        Err(refusal) => write_refusal(listing, Err(refusal)),
     }
 }

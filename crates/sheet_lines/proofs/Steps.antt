@@ -20,7 +20,7 @@ use Rattle.answers.specs.Verdict.{is_accepted}
 use Rattle.answers.specs.declared.Refusal.{Refusal}
 use Rattle.answers.proofs.Refusing.{accepts}
 use Rattle.tables.specs.Order.{pair}
-use Rattle.tables.proofs.Tests.{both_true}
+use Rattle.tables.proofs.Tests.{both_true, true-not-false}
 use Rattle.drawing.specs.declared.Drawing.{Drawing}
 use Rattle.drawing.specs.declared.Node.{Node}
 use Rattle.drawing.specs.declared.Edge.{Edge}
@@ -58,12 +58,16 @@ and-true false = refl
 pub place-small : {name : List ℕ} (x : Names) {k : ℕ} → Found name (names_of x) (Some k) → k ≤ most_labels
 place-small {name} x f = omega (arith, f.place, find-bound name (names_of x), length-names x, x.few)
 
+-- a line that was read is not none
+was-read : {A : Type 0} → true ≡ false → A
+was-read e = absurd (true-not-false refl e)
+
 -- ---- a line that is none
 
 module _ {line : List ℕ} {x : State} (g : Ready line x) where
   pub unread : {reads : Reading → Option Reading} → none ≡ reads (view_of x) → LineRead line x x None reads
   unfolding allow
-  unread e = record { answer = e; fine = g.fine; count = omega arith }
+  unread e = record { answer = e; fine = g.fine; kept = λ s. refl; count = omega arith }
 
   -- ---- a class line
 
@@ -95,6 +99,7 @@ module _ {line : List ℕ} {x : State} (g : Ready line x) where
           record {
             answer = rw (m, value) (rw t at (class-shown (view_of x) e));
             fine = record { classes = rw (names-after a _ x.classes new m) h; labels = f.labels; nodes = f.nodes; drawn = f.drawn; node_room = f.node_room; edge_room = f.edge_room };
+            kept = was-read;
             count = omega (arith, class-size, lines-after a (pair u u) x.classes new m);
           }
 
@@ -127,6 +132,7 @@ module _ {line : List ℕ} {x : State} (g : Ready line x) where
           record {
             answer = rw (m, left, right) (rw t at (label-shown (view_of x) e));
             fine = record { classes = f.classes; labels = rw (names-after a _ x.labels new m) h; nodes = f.nodes; drawn = f.drawn; node_room = f.node_room; edge_room = f.edge_room };
+            kept = was-read;
             count = omega (arith, label-size, lines-after a (pair u w) x.labels new m);
           }
 
@@ -214,6 +220,7 @@ module _ {line : List ℕ} {x : State} (g : Ready line x) {a b c d : List ℕ} (
               node_room = rw p.1 w.nodes;
               edge_room = rw p.1 w.edges;
             };
+            kept = was-read;
             count = omega arith;
           }
 
@@ -271,6 +278,7 @@ module _ {line : List ℕ} {x : State} (g : Ready line x) {a b c : List ℕ} (e 
                 record {
                   answer = rw (same, t, p.1, view-edge x.drawing line-edge (roomy-drawing f) h) (rw t at joined);
                   fine = record { classes = f.classes; labels = f.labels; nodes = f.nodes; drawn = count ∙ f.drawn; node_room = rw p.1 w.nodes; edge_room = rw p.1 w.edges };
+                  kept = λ s. was-read (sym t ∙ sym same ∙ s);
                   count = omega arith;
                 }
             by false t =
@@ -278,6 +286,7 @@ module _ {line : List ℕ} {x : State} (g : Ready line x) {a b c : List ℕ} (e 
                 record {
                   answer = rw (same, t) (rw t at joined);
                   fine = rw z f;
+                  kept = λ s. ap (λ (d : Drawing). record { section = x.section; opened = x.opened; classes = x.classes; labels = x.labels; nodes = x.nodes; drawing = d }) z;
                   count = omega arith;
                 }
 
@@ -304,6 +313,7 @@ module _ {line : List ℕ} {x : State} (g : Ready line x) where
       record {
         answer = header-tested (view_of x) line true t;
         fine = record { classes = f.classes; labels = f.labels; nodes = f.nodes; drawn = f.drawn; node_room = f.node_room; edge_room = f.edge_room };
+        kept = was-read;
         count = omega arith;
       }
 
@@ -323,13 +333,14 @@ module _ {line : List ℕ} {x : State} (g : Ready line x) where
       record {
         answer = rw (lt-ltb (number_of x.section) 3 (omega arith), e);
         fine = record { classes = g.fine.classes; labels = g.fine.labels; nodes = g.fine.nodes; drawn = g.fine.drawn; node_room = g.fine.node_room; edge_room = g.fine.edge_room };
+        kept = was-read;
         count = omega arith;
       }
 
 -- ---- any line
 
 pub read_as : {line : List ℕ} {x y : State} {r : Maybe (Unit {0})} {reads reads' : Reading → Option Reading} → LineRead line x y r reads → reads (view_of x) ≡ reads' (view_of x) → LineRead line x y r reads'
-read_as c h = record { answer = c.answer ∙ h; fine = c.fine; count = c.count }
+read_as c h = record { answer = c.answer ∙ h; fine = c.fine; kept = c.kept; count = c.count }
 
 -- the line of values of a section
 pub by-section : {line : List ℕ} {x y : State} {r : Maybe (Unit {0})} (k : Section) → x.section ≡ k →

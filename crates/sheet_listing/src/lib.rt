@@ -3,14 +3,14 @@
 #![tactic(auto)]
 
 ghost use Rattle.std.specs.Prelude.{◌≡◌, ◌++◌, ◌≤◌, map};
-ghost use Rattle.answers.specs.Answers.{refusal_of};
+ghost use Rattle.answers.specs.Answers.{verdict_of};
 ghost use Rattle.sheet_text.specs.inner.Parts.{names_of};
 ghost use Rattle.sheet_writer.specs.Parts.{parts_of};
 ghost use Rattle.sheet_writer.specs.inner.Written.{Put};
 ghost use Rattle.sheet_listing.specs.Listing.{line, listing, refusal, listed_in, listed};
 ghost use Rattle.sheet_listing.specs.inner.Written.{gap, Finished};
 
-use answers::Refusal;
+use answers::{Refusal, say};
 use sheet_text::Names;
 use sheet_writer::{Field, fits, put_byte, put_rows, put_text};
 
@@ -65,11 +65,12 @@ pub fn write_listing(out: &mut [u8], names: &Names, rows: &[u32], picks: usize) 
     finish(out, end)
 }
 
-// Writes the listing of a refusal, in the same way.
-pub fn write_refusal(out: &mut [u8], answer: Refusal) -> usize
-    ensures { listed result out.new ≡ listed_in (refusal (refusal_of answer)) out.old }
+// Writes the listing of a refusal, in the same way; that of an answer that accepts has the numbers 0 and 0.
+pub fn write_refusal(out: &mut [u8], answer: Result<(), Refusal>) -> usize
+    ensures { listed result out.new ≡ listed_in (refusal (verdict_of answer)) out.old }
 {
-    let (number, place) = answer.number_and_place();
+    let mut place = 0;
+    let number = say(answer, &mut place);
     let k = put_text(out, 0, b"refused");
     let n = put_field(out, k, number, false);
     let p = put_field(out, n, place, false);

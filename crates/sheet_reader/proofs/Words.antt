@@ -43,4 +43,5 @@ module _ {s : List ℕ} {x : State} (g : Whole s x) where
         names = refl;
         few = g.fine.nodes;
         drawn = sym d ∙ g.fine.drawn;
+        counted = g.fine.drawn;
       }

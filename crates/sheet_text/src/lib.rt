@@ -67,7 +67,7 @@ pub fn is_name(text: &[u8]) -> bool
     ensures { result ≡ is_name text.now }
 {
     let n = text.len();
-    (1 <= n) & (n <= LETTERS) & all_within(text, b'a', b'z')
+    (1 <= n) & (n <= LETTERS) && all_within(text, b'a', b'z')
 }
 
 // Whether a text is a number: 1 to 5 digits without a leading zero.
@@ -76,7 +76,7 @@ pub fn is_number(text: &[u8]) -> bool
 {
     let n = text.len();
     let leading_zero = (n > 1) & text.starts_with(b"0");
-    (1 <= n) & (n <= DIGITS) & all_within(text, b'0', b'9') & !leading_zero
+    (1 <= n) & (n <= DIGITS) && all_within(text, b'0', b'9') & !leading_zero
 }
 
 // The value of a number.

@@ -77,14 +77,14 @@ fn descending() -> Table {
 }
 
 /// Registers of 65,536 pairs by composition and by cross; of these the inverse, the right values, another composition, tags; and a two-way
-/// label of 4,096 pairs.
+/// label of 4,096 pairs. A composition by groups, by an index of its own.
 fn large_runs() -> Vec<Words> {
     let hub: Table = (0..4_096).map(|i| (i, 7)).collect();
     let spokes: Table = (0..16).map(|i| (7, i)).collect();
     let feed = cases::feed_with(&[cases::class(0, 256)], &[hub, spokes, descending()], &[false, false, true]);
     let then = [2, 2, 0, 13, 2, 0, 3, 2, 2, 7, 2, 0, 8, 2, 0, 9, 2, 0, 1, 2, 0];
     let lists = [[1, 0, 0, 1, 1, 0, 3, 0, 1], [0, 0, 0, 0, 0, 0, 10, 0, 1]].map(|first| [&first[..], &then].concat());
-    lists.map(|list| (feed.clone(), list)).into()
+    lists.map(|list| (feed.clone(), list)).into_iter().chain([(ring_query().0, vec![1, 0, 0, 3, 0, 0])]).collect()
 }
 
 /// So many objects in a ring, the numbers of neighbours so far apart: each leads to the next ones.
@@ -140,15 +140,19 @@ fn translate((feed, drawing): &Words) -> usize {
     matcher::translate(feed, drawing, &mut vec![0; 3_072]).unwrap_or(0)
 }
 
-/// The number of a run.
+/// The numbers of a run in a work slice that takes the longest scratch at once, and in one whose length alone does not tell which scratch it takes.
 fn run((feed, list): &Words) -> usize {
-    said(&matcher::run(feed, list, &mut vec![0; 900_000])).0 as usize
+    let [long, short] = [900_000, 60_000].map(|words| said(&matcher::run(feed, list, &mut vec![0; words])).0 as usize);
+    100 * long + short
 }
 
-/// The row words of a query.
+/// The row words of a query in two such work slices, together.
 fn query((feed, drawing): &Words) -> usize {
-    let [mut list, mut work, mut rows] = [3_072, 1_600_000, 140_000].map(|words| vec![0; words]);
-    matcher::query(feed, drawing, &mut list, &mut work, &mut rows).map_or(0, <[u32]>::len)
+    let found = |room: usize| {
+        let [mut list, mut work, mut rows] = [3_072, room, 140_000].map(|words| vec![0; words]);
+        matcher::query(feed, drawing, &mut list, &mut work, &mut rows).map_or(0, <[u32]>::len)
+    };
+    found(1_600_000) + found(60_000)
 }
 
 /// The length of a listing.

@@ -3,6 +3,7 @@ use Prim.Native.Nat.{◌-◌}
 use native.Mathlib.Omega.{arith}
 use mathlib.Core.Path.{◌∙◌}
 use lib.ListN.{take}
+use Rattle.answers.specs.Answers.{verdict_of}
 use Rattle.sheet_pages.specs.SheetPages.{printed_pages}
 use Rattle.sheet_pages.proofs.Printed.{pages-inside, pages-printed, refusal-printed, refusal-listed, cut-printed}
 use Rattle.match_sheet.proofs.Cut.{decided}
@@ -19,6 +20,7 @@ returns-in-Ok c =
     }
 
 pub returns-in-Err : goal.returns-in-Err
+unfolding verdict_of
 returns-in-Err c =
     let a = c.args in
     let h = c.requires in

@@ -1,5 +1,6 @@
 -- `sheet::print_answer` meets its contract. Assumes nothing.
 use mathlib.Core.Path.{refl, ◌∙◌}
+use Rattle.answers.specs.Answers.{verdict_of}
 use Rattle.sheet.specs.SheetQuery.{own_slices}
 use Rattle.sheet.proofs.Printing.{query-accepted, some-pick, rows-listed, refusal-listed}
 use Rattle.sheet.proofs.print_answer.Goals as goal
@@ -26,5 +27,6 @@ returns-in-Ok c =
     c.write_listing.ensures ∙ rw (c.picked_names-picked.ensures, c.nodes.ensures) (rows-listed _ _ c.in-Ok.ensures c.count_picks-picks.ensures)
 
 pub returns-in-Err : goal.returns-in-Err
+unfolding verdict_of
 returns-in-Err c =
     c.write_refusal.ensures ∙ refusal-listed _ _ c.in-Err.ensures

@@ -1,5 +1,6 @@
 -- `sheet::sheet_query` meets its contract. Assumes nothing.
 use mathlib.Core.Path.{sym, ◌∙◌}
+use Rattle.answers.specs.Answers.{verdict_of}
 use Rattle.sheet.proofs.Printing.{sheet-refused, whole-listed}
 use Rattle.sheet.proofs.sheet_query.Goals as goal
 
@@ -16,5 +17,6 @@ returns-in-Ok c =
     let g = c.in-Ok.ensures in c.print_answer.ensures ∙ whole-listed g.given _
 
 pub returns-in-Err : goal.returns-in-Err
+unfolding verdict_of
 returns-in-Err c =
     c.write_refusal.ensures ∙ sheet-refused c.in-Err.ensures _

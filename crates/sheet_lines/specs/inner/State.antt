@@ -1,7 +1,7 @@
 -- State: what the reader holds of a sheet, and what it shows of it.
 --
 -- In order: what a state shows; the state before the first line; what the functions are given; what a line leaves. Assumes nothing.
-use Rattle.std.specs.Prelude.{ℕ, ◌+◌, ◌*◌, ◌≤◌, ◌<◌, ◌≡◌, true, List, [], length, take, Option as Maybe}
+use Rattle.std.specs.Prelude.{ℕ, ◌+◌, ◌*◌, ◌≤◌, ◌<◌, ◌≡◌, true, false, List, [], length, take, Option as Maybe}
 use Rattle.std.specs.Option.{is_some}
 use Rattle.std.proofs.Math.Option.{Option}
 use Rattle.limits.specs.Limits.{most_classes, most_labels, most_nodes, most_edges, most_bytes}
@@ -83,8 +83,9 @@ pub record Numbered (name : List ℕ) (x y : Tables) (k : ℕ) : Type 0 where
   pub entries : y.entries ≡ x.entries
   pub lines : y.lines ≡ x.lines
 
--- y shows what the line gives; a line of classes or labels has four bytes, with its line feed
+-- y shows what the line gives, and is x where it gives none; a line of classes or labels has four bytes, with its line feed
 pub record LineRead (line : List ℕ) (x y : State) (r : Maybe (Unit {0})) (reads : Reading → Option Reading) : Type 0 where
   pub answer : allow (is_some r) (view_of y) ≡ reads (view_of x)
   pub fine : Fine y
+  pub kept : is_some r ≡ false → y ≡ x
   pub count : 4 * line_count y ≤ 4 * line_count x + length line + 1

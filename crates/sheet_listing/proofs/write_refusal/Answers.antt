@@ -10,6 +10,6 @@ pub returns : goal.returns
 unfolding bytes
 returns c =
     finished-listed
-    (put_same (refusal-text _ refl c.number_and_place-number.ensures)
+    (put_same (refusal-text _ refl c.say-number.ensures)
     (put_then (put_then (put_then c.put_text-k.ensures c.put_field-n.ensures) c.put_field-p.ensures) c.put_byte-end.ensures))
     c.finish.ensures

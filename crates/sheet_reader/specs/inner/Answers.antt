@@ -72,6 +72,7 @@ pub record Given (s feed : List ℕ) (w : SheetRead) : Type 0 where
   pub names : names_of w.nodes ≡ reading.names
   pub few : length (names_of w.nodes) ≤ most_nodes
   pub drawn : length (view w.drawing).nodes ≡ length (names_of w.nodes)
+  pub counted : w.drawing.n ≡ length (names_of w.nodes)
 
 -- the answer for a sheet, and what it gives where that accepts
 pub record Answers (s feed : List ℕ) (r : Result SheetRead Refusal) : Type 0 where

@@ -3,7 +3,12 @@ use Rattle.sheet_text.specs.Text.{within, is_number}
 use Rattle.sheet_text.proofs.Words.{leading-is}
 use Rattle.sheet_text.proofs.is_number.Goals as goal
 
-pub returns : goal.returns
+pub returns-then-n : goal.returns-then-n
 unfolding within is_number
-returns c =
-    rw (c.all_within.ensures, leading-is c.args.text.now, c.starts_with.ensures.value)
+returns-then-n c =
+    rw (c.if-n.true, c.all_within.ensures, leading-is c.args.text.now, c.starts_with.ensures.value)
+
+pub returns-else-n : goal.returns-else-n
+unfolding within is_number
+returns-else-n c =
+    rw c.if-n.false
