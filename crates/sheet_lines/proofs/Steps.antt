@@ -40,7 +40,7 @@ use Rattle.sheet_lines.specs.declared.section.Section.{Section}
 use Rattle.sheet_lines.specs.declared.section.Section.TheVariants.{Classes, Labels, Nodes, Edges}
 use Rattle.sheet_lines.specs.Reading.{Reading, allow, turn_to, with_line, fits_table, with_classes, with_labels, with_node as add_node, with_edge as add_edge}
 use Rattle.sheet_lines.specs.Reading.{read_class, read_label, read_node, read_edge, end_section, headers, read_header, read_values, read_line, nothing}
-use Rattle.sheet_lines.specs.inner.State.{tables_read, view_of, Linable, nothing_read, number_of, Empty, Fine, Ready, LineRead}
+use Rattle.sheet_lines.specs.inner.State.{tables_read, view_of, Linable, nothing_read, number_of, Empty, Fine, Ready, LineRead, LineTaken}
 use Rattle.sheet_lines.specs.contracts.section.Section.{the_type}
 use Rattle.sheet_lines.proofs.Naming.{fits-bound}
 use Rattle.sheet_lines.proofs.Adding.{names-after, lines-after}
@@ -65,14 +65,14 @@ was-read e = absurd (true-not-false refl e)
 -- ---- a line that is none
 
 module _ {line : List ℕ} {x : State} (g : Ready line x) where
-  pub unread : {reads : Reading → Option Reading} → none ≡ reads (view_of x) → LineRead line x x None reads
+  pub unread : {reads : Reading → Option Reading} → none ≡ reads (view_of x) → LineTaken line x x None reads
   unfolding allow
-  unread e = record { answer = e; fine = g.fine; kept = λ s. refl; count = omega arith }
+  unread e = record { shown = record { answer = e; fine = g.fine; count = omega arith }; kept = λ s. refl }
 
   -- ---- a class line
 
   module _ {a b : List ℕ} (e : fields line ≡ a ∷ b ∷ []) where
-    pub class-unread : (is_name a && fits_table most_classes a (names_of x.classes.names) && is_number b) ≡ false → LineRead line x x None (λ v. read_class v (fields line))
+    pub class-unread : (is_name a && fits_table most_classes a (names_of x.classes.names) && is_number b) ≡ false → LineTaken line x x None (λ v. read_class v (fields line))
     unfolding view_of allow tables_read
     class-unread t = unread (rw t at (class-shown (view_of x) e))
 
@@ -90,24 +90,26 @@ module _ {line : List ℕ} {x : State} (g : Ready line x) where
           record { fits = le-leb _ most_labels (omega arith); room = omega (arith, class-size, g.short) }
 
       pub class-read : {u : ℕ} (new : Tables) → u ≡ value_of b → tables_read new ≡ with_line a (pair u u) (tables_read x.classes) →
-          LineRead line x (record { section = x.section; opened = x.opened; classes = new; labels = x.labels; nodes = x.nodes; drawing = x.drawing }) (Some tt) (λ v. read_class v (fields line))
+          LineTaken line x (record { section = x.section; opened = x.opened; classes = new; labels = x.labels; nodes = x.nodes; drawing = x.drawing }) (Some tt) (λ v. read_class v (fields line))
       unfolding view_of allow with_classes tables_read
       class-read {u = u} new value m =
           let f = g.fine in
           let p = simp both_true at t in
           let h = fits-bound a (names_of x.classes.names) most_classes p.0.1 in
           record {
-            answer = rw (m, value) (rw t at (class-shown (view_of x) e));
-            fine = record { classes = rw (names-after a _ x.classes new m) h; labels = f.labels; nodes = f.nodes; drawn = f.drawn; node_room = f.node_room; edge_room = f.edge_room };
+            shown = record {
+              answer = rw (m, value) (rw t at (class-shown (view_of x) e));
+              fine = record { classes = rw (names-after a _ x.classes new m) h; labels = f.labels; nodes = f.nodes; drawn = f.drawn; node_room = f.node_room; edge_room = f.edge_room };
+              count = omega (arith, class-size, lines-after a (pair u u) x.classes new m);
+            };
             kept = was-read;
-            count = omega (arith, class-size, lines-after a (pair u u) x.classes new m);
           }
 
   -- ---- a label line
 
   module _ {a b c : List ℕ} (e : fields line ≡ a ∷ b ∷ c ∷ []) where
     pub label-unread : (is_label_name a && not (clashes a (names_of x.labels.names)) && fits_table most_labels a (names_of x.labels.names) && is_number b && is_number c) ≡ false →
-        LineRead line x x None (λ v. read_label v (fields line))
+        LineTaken line x x None (λ v. read_label v (fields line))
     unfolding view_of allow tables_read
     label-unread t = unread (rw t at (label-shown (view_of x) e))
 
@@ -123,17 +125,19 @@ module _ {line : List ℕ} {x : State} (g : Ready line x) where
           record { fits = p.0.0.1; room = omega (arith, label-size, g.short) }
 
       pub label-read : {u w : ℕ} (new : Tables) → u ≡ value_of b → w ≡ value_of c → tables_read new ≡ with_line a (pair u w) (tables_read x.labels) →
-          LineRead line x (record { section = x.section; opened = x.opened; classes = x.classes; labels = new; nodes = x.nodes; drawing = x.drawing }) (Some tt) (λ v. read_label v (fields line))
+          LineTaken line x (record { section = x.section; opened = x.opened; classes = x.classes; labels = new; nodes = x.nodes; drawing = x.drawing }) (Some tt) (λ v. read_label v (fields line))
       unfolding view_of allow with_labels tables_read
       label-read {u = u} {w = w} new left right m =
           let f = g.fine in
           let p = simp both_true at t in
           let h = fits-bound a (names_of x.labels.names) most_labels p.0.0.1 in
           record {
-            answer = rw (m, left, right) (rw t at (label-shown (view_of x) e));
-            fine = record { classes = f.classes; labels = rw (names-after a _ x.labels new m) h; nodes = f.nodes; drawn = f.drawn; node_room = f.node_room; edge_room = f.edge_room };
+            shown = record {
+              answer = rw (m, left, right) (rw t at (label-shown (view_of x) e));
+              fine = record { classes = f.classes; labels = rw (names-after a _ x.labels new m) h; nodes = f.nodes; drawn = f.drawn; node_room = f.node_room; edge_room = f.edge_room };
+              count = omega (arith, label-size, lines-after a (pair u w) x.labels new m);
+            };
             kept = was-read;
-            count = omega (arith, label-size, lines-after a (pair u w) x.labels new m);
           }
 
 -- ---- the drawing, with one node more or one edge more, where it has room
@@ -174,12 +178,12 @@ module _ {line : List ℕ} {x : State} (g : Ready line x) {a b c d : List ℕ} (
   abbrev classes : List (List ℕ)
   classes = names_of x.classes.names
 
-  pub class-unknown : known b classes ≡ false → LineRead line x x None (λ v. read_node v (fields line))
+  pub class-unknown : known b classes ≡ false → LineTaken line x x None (λ v. read_node v (fields line))
   unfolding view_of allow tables_read
   class-unknown k = unread g (rw (k, and-false) at (node-shown (view_of x) e))
 
   module _ (k : known b classes ≡ true) where
-    pub node-unread : (is_name a && not (known a (names_of x.nodes)) && is_number c && is_number_or_dash d) ≡ false → LineRead line x x None (λ v. read_node v (fields line))
+    pub node-unread : (is_name a && not (known a (names_of x.nodes)) && is_number c && is_number_or_dash d) ≡ false → LineTaken line x x None (λ v. read_node v (fields line))
     unfolding view_of allow tables_read
     node-unread t = unread g (rw (k, and-true, t) at (node-shown (view_of x) e))
 
@@ -192,7 +196,7 @@ module _ {line : List ℕ} {x : State} (g : Ready line x) {a b c d : List ℕ} (
       shown = rw (k, and-true, t, nodes-room x.drawing (roomy-drawing g.fine)) at (node-shown (view_of x) e)
 
       pub node-refused : {T : Type 0} (r : Result T Refusal) (n : Drawing) → line_of r n ≡ with_node x.drawing v → is_ok r ≡ false →
-          LineRead line x (record { section = x.section; opened = x.opened; classes = x.classes; labels = x.labels; nodes = x.nodes; drawing = n }) None (λ v. read_node v (fields line))
+          LineTaken line x (record { section = x.section; opened = x.opened; classes = x.classes; labels = x.labels; nodes = x.nodes; drawing = n }) None (λ v. read_node v (fields line))
       unfolding allow
       node-refused r n m o =
           let p = line-drawn r n _ m in
@@ -200,7 +204,7 @@ module _ {line : List ℕ} {x : State} (g : Ready line x) {a b c d : List ℕ} (
           rw (p.1, node-left x.drawing v full) (unread g (rw full at shown))
 
       pub node-read : {T : Type 0} (r : Result T Refusal) (n : Drawing) (names : Names) → line_of r n ≡ with_node x.drawing v → is_ok r ≡ true → names_of names ≡ names_of x.nodes ++ (a ∷ []) →
-          LineRead line x (record { section = x.section; opened = x.opened; classes = x.classes; labels = x.labels; nodes = names; drawing = n }) (Some tt) (λ v. read_node v (fields line))
+          LineTaken line x (record { section = x.section; opened = x.opened; classes = x.classes; labels = x.labels; nodes = names; drawing = n }) (Some tt) (λ v. read_node v (fields line))
       unfolding allow view_of add_node more_nodes
       node-read r n names m o l =
           let f = g.fine in
@@ -211,17 +215,19 @@ module _ {line : List ℕ} {x : State} (g : Ready line x) {a b c d : List ℕ} (
           let s = length-append (names_of x.nodes) (a ∷ []) in
           let count : n.n ≡ x.drawing.n + 1 = ap (λ d. d.n) (p.1 ∙ node-added x.drawing v h) in
           record {
-            answer = rw (p.1, l, view-node x.drawing v (roomy-drawing f) h) (rw room at shown);
-            fine = record {
-              classes = f.classes;
-              labels = f.labels;
-              nodes = rw l (omega (arith, f.drawn));
-              drawn = rw l (omega (arith, f.drawn));
-              node_room = rw p.1 w.nodes;
-              edge_room = rw p.1 w.edges;
+            shown = record {
+              answer = rw (p.1, l, view-node x.drawing v (roomy-drawing f) h) (rw room at shown);
+              fine = record {
+                classes = f.classes;
+                labels = f.labels;
+                nodes = rw l (omega (arith, f.drawn));
+                drawn = rw l (omega (arith, f.drawn));
+                node_room = rw p.1 w.nodes;
+                edge_room = rw p.1 w.edges;
+              };
+              count = omega arith;
             };
             kept = was-read;
-            count = omega arith;
           }
 
 -- ---- an edge line
@@ -233,17 +239,17 @@ module _ {line : List ℕ} {x : State} (g : Ready line x) {a b c : List ℕ} (e 
   abbrev nodes : List (List ℕ)
   nodes = names_of x.nodes
 
-  pub label-unknown : known a labels ≡ false → LineRead line x x None (λ v. read_edge v (fields line))
+  pub label-unknown : known a labels ≡ false → LineTaken line x x None (λ v. read_edge v (fields line))
   unfolding view_of allow tables_read
   label-unknown k = unread g (rw k at (edge-shown (view_of x) e))
 
   module _ (k : known a labels ≡ true) where
-    pub source-unknown : known b nodes ≡ false → LineRead line x x None (λ v. read_edge v (fields line))
+    pub source-unknown : known b nodes ≡ false → LineTaken line x x None (λ v. read_edge v (fields line))
     unfolding view_of allow tables_read
     source-unknown l = unread g (rw (k, l) at (edge-shown (view_of x) e))
 
     module _ (l : known b nodes ≡ true) where
-      pub target-unknown : known c nodes ≡ false → LineRead line x x None (λ v. read_edge v (fields line))
+      pub target-unknown : known c nodes ≡ false → LineTaken line x x None (λ v. read_edge v (fields line))
       unfolding view_of allow tables_read
       target-unknown m = unread g (rw (k, l, m) at (edge-shown (view_of x) e))
 
@@ -256,7 +262,7 @@ module _ {line : List ℕ} {x : State} (g : Ready line x) {a b c : List ℕ} (e 
         joined = rw (k, l, t, edges-room x.drawing (roomy-drawing g.fine)) at (edge-shown (view_of x) e)
 
         pub edge-read : {T : Type 0} (r : Result T Refusal) (n : Drawing) → line_of r n ≡ with_edge x.drawing line-edge → (o : Maybe (Unit {0})) → is_some o ≡ is_ok r →
-            LineRead line x (record { section = x.section; opened = x.opened; classes = x.classes; labels = x.labels; nodes = x.nodes; drawing = n }) o (λ v. read_edge v (fields line))
+            LineTaken line x (record { section = x.section; opened = x.opened; classes = x.classes; labels = x.labels; nodes = x.nodes; drawing = n }) o (λ v. read_edge v (fields line))
         unfolding view_of add_edge view allow more_edges
         edge-read r n m o q = by (ltb x.drawing.e most_edges) refl
           where
@@ -270,24 +276,28 @@ module _ {line : List ℕ} {x : State} (g : Ready line x) {a b c : List ℕ} (e 
             same = q ∙ sym p.0 ∙ edge-accepted x.drawing line-edge
 
             by : (b : Bool) → ltb x.drawing.e most_edges ≡ b →
-                LineRead line x (record { section = x.section; opened = x.opened; classes = x.classes; labels = x.labels; nodes = x.nodes; drawing = n }) o (λ v. read_edge v (fields line))
+                LineTaken line x (record { section = x.section; opened = x.opened; classes = x.classes; labels = x.labels; nodes = x.nodes; drawing = n }) o (λ v. read_edge v (fields line))
             by true t =
                 let h = ltb-true x.drawing.e most_edges t in
                 let w = edge-roomy x.drawing line-edge (roomy-drawing f) in
                 let count : n.n ≡ x.drawing.n = ap (λ d. d.n) (p.1 ∙ edge-added x.drawing line-edge h) in
                 record {
-                  answer = rw (same, t, p.1, view-edge x.drawing line-edge (roomy-drawing f) h) (rw t at joined);
-                  fine = record { classes = f.classes; labels = f.labels; nodes = f.nodes; drawn = count ∙ f.drawn; node_room = rw p.1 w.nodes; edge_room = rw p.1 w.edges };
+                  shown = record {
+                    answer = rw (same, t, p.1, view-edge x.drawing line-edge (roomy-drawing f) h) (rw t at joined);
+                    fine = record { classes = f.classes; labels = f.labels; nodes = f.nodes; drawn = count ∙ f.drawn; node_room = rw p.1 w.nodes; edge_room = rw p.1 w.edges };
+                    count = omega arith;
+                  };
                   kept = λ s. was-read (sym t ∙ sym same ∙ s);
-                  count = omega arith;
                 }
             by false t =
                 let z : n ≡ x.drawing = p.1 ∙ edge-left x.drawing line-edge t in
                 record {
-                  answer = rw (same, t) (rw t at joined);
-                  fine = rw z f;
+                  shown = record {
+                    answer = rw (same, t) (rw t at joined);
+                    fine = rw z f;
+                    count = omega arith;
+                  };
                   kept = λ s. ap (λ (d : Drawing). record { section = x.section; opened = x.opened; classes = x.classes; labels = x.labels; nodes = x.nodes; drawing = d }) z;
-                  count = omega arith;
                 }
 
 -- ---- lines that touch no values
@@ -306,41 +316,49 @@ section-small Edges = omega arith
 
 module _ {line : List ℕ} {x : State} (g : Ready line x) where
   pub header-read : same line (get_or headers (number_of x.section) []) ≡ true →
-      LineRead line x (record { section = x.section; opened = true; classes = x.classes; labels = x.labels; nodes = x.nodes; drawing = x.drawing }) (Some tt) (λ v. read_header v line)
+      LineTaken line x (record { section = x.section; opened = true; classes = x.classes; labels = x.labels; nodes = x.nodes; drawing = x.drawing }) (Some tt) (λ v. read_header v line)
   unfolding view_of allow turn_to
   header-read t =
       let f = g.fine in
       record {
-        answer = header-tested (view_of x) line true t;
-        fine = record { classes = f.classes; labels = f.labels; nodes = f.nodes; drawn = f.drawn; node_room = f.node_room; edge_room = f.edge_room };
+        shown = record {
+          answer = header-tested (view_of x) line true t;
+          fine = record { classes = f.classes; labels = f.labels; nodes = f.nodes; drawn = f.drawn; node_room = f.node_room; edge_room = f.edge_room };
+          count = omega arith;
+        };
         kept = was-read;
-        count = omega arith;
       }
 
-  pub header-refused : same line (get_or headers (number_of x.section) []) ≡ false → LineRead line x x None (λ v. read_header v line)
+  pub header-refused : same line (get_or headers (number_of x.section) []) ≡ false → LineTaken line x x None (λ v. read_header v line)
   unfolding view_of allow
   header-refused t = unread g (header-tested (view_of x) line false t)
 
-  pub last-section : number_of x.section ≡ 3 → LineRead line x x None end_section
+  pub last-section : number_of x.section ≡ 3 → LineTaken line x x None end_section
   unfolding end_section view_of allow
   last-section t = unread g (rw t)
 
   pub section-ended : (k : Section) → number_of k ≡ number_of x.section + 1 →
-      LineRead line x (record { section = k; opened = false; classes = x.classes; labels = x.labels; nodes = x.nodes; drawing = x.drawing }) (Some tt) end_section
+      LineTaken line x (record { section = k; opened = false; classes = x.classes; labels = x.labels; nodes = x.nodes; drawing = x.drawing }) (Some tt) end_section
   unfolding end_section view_of turn_to
   section-ended k e =
       let s = section-small k in
       record {
-        answer = rw (lt-ltb (number_of x.section) 3 (omega arith), e);
-        fine = record { classes = g.fine.classes; labels = g.fine.labels; nodes = g.fine.nodes; drawn = g.fine.drawn; node_room = g.fine.node_room; edge_room = g.fine.edge_room };
+        shown = record {
+          answer = rw (lt-ltb (number_of x.section) 3 (omega arith), e);
+          fine = record { classes = g.fine.classes; labels = g.fine.labels; nodes = g.fine.nodes; drawn = g.fine.drawn; node_room = g.fine.node_room; edge_room = g.fine.edge_room };
+          count = omega arith;
+        };
         kept = was-read;
-        count = omega arith;
       }
 
 -- ---- any line
 
 pub read_as : {line : List ℕ} {x y : State} {r : Maybe (Unit {0})} {reads reads' : Reading → Option Reading} → LineRead line x y r reads → reads (view_of x) ≡ reads' (view_of x) → LineRead line x y r reads'
-read_as c h = record { answer = c.answer ∙ h; fine = c.fine; kept = c.kept; count = c.count }
+read_as c h = record { answer = c.answer ∙ h; fine = c.fine; count = c.count }
+
+-- a law of what y shows is one of a line that is taken
+pub taken_by : {line : List ℕ} {x y : State} {r : Maybe (Unit {0})} {reads reads' : Reading → Option Reading} → (LineRead line x y r reads → LineRead line x y r reads') → LineTaken line x y r reads → LineTaken line x y r reads'
+taken_by f c = record { shown = f c.shown; kept = c.kept }
 
 -- the line of values of a section
 pub by-section : {line : List ℕ} {x y : State} {r : Maybe (Unit {0})} (k : Section) → x.section ≡ k →

@@ -8,7 +8,7 @@ mod entries; // entries.rt: the classes, or the labels
 ghost use Rattle.std.specs.Prelude.{◌≡◌, ◌&&◌, eqb};
 ghost use Rattle.sheet_text.specs.Text.{fields};
 ghost use Rattle.sheet_lines.specs.Reading.{read_class, read_label, read_node, read_edge, read_values, end_section, read_header, read_line};
-ghost use Rattle.sheet_lines.specs.inner.State.{view_of, Empty, Ready, LineRead};
+ghost use Rattle.sheet_lines.specs.inner.State.{view_of, Empty, Ready, LineTaken};
 
 use drawing::Drawing;
 pub use entries::{LINES, Tables};
@@ -66,7 +66,7 @@ impl<'a> State<'a> {
     // A class line.
     fn read_class(&mut self, line: &'a [u8]) -> Option<()>
         requires { Ready line.now self.old }
-        ensures { LineRead line.now self.old self.new result (λ v. read_class v (fields line.now)) }
+        ensures { LineTaken line.now self.old self.new result (λ v. read_class v (fields line.now)) }
     {
         let (name, object) = two_fields(line)?;
         let fits = is_name(name) & self.classes.fits(name, CLASSES) & is_number(object);
@@ -87,7 +87,7 @@ impl<'a> State<'a> {
     // A label line.
     fn read_label(&mut self, line: &'a [u8]) -> Option<()>
         requires { Ready line.now self.old }
-        ensures { LineRead line.now self.old self.new result (λ v. read_label v (fields line.now)) }
+        ensures { LineTaken line.now self.old self.new result (λ v. read_label v (fields line.now)) }
     {
         let (name, from, to) = three_fields(line)?;
         let fits = is_label_name(name)
@@ -107,7 +107,7 @@ impl<'a> State<'a> {
     // A node line.
     fn read_node(&mut self, line: &'a [u8]) -> Option<()>
         requires { Ready line.now self.old }
-        ensures { LineRead line.now self.old self.new result (λ v. read_node v (fields line.now)) }
+        ensures { LineTaken line.now self.old self.new result (λ v. read_node v (fields line.now)) }
     {
         let (name, class_name, pick, fixed) = four_fields(line)?;
         let class = self.classes.names.find(class_name)? as u32;
@@ -128,7 +128,7 @@ impl<'a> State<'a> {
     // An edge line.
     fn read_edge(&mut self, line: &'a [u8]) -> Option<()>
         requires { Ready line.now self.old }
-        ensures { LineRead line.now self.old self.new result (λ v. read_edge v (fields line.now)) }
+        ensures { LineTaken line.now self.old self.new result (λ v. read_edge v (fields line.now)) }
     {
         let (label_name, source_name, target_name) = three_fields(line)?;
         let label = self.labels.names.find(label_name)? as u32;
@@ -142,7 +142,7 @@ impl<'a> State<'a> {
     // A line where a name line must stand.
     fn read_header(&mut self, line: &'a [u8]) -> Option<()>
         requires { Ready line.now self.old }
-        ensures { LineRead line.now self.old self.new result (λ v. read_header v line.now) }
+        ensures { LineTaken line.now self.old self.new result (λ v. read_header v line.now) }
     {
         if line != self.section.header() {
             return None;
@@ -154,7 +154,7 @@ impl<'a> State<'a> {
     // An empty line, which ends a section.
     fn end_section(&mut self, line: &'a [u8]) -> Option<()>
         requires { Ready line.now self.old }
-        ensures { LineRead line.now self.old self.new result end_section }
+        ensures { LineTaken line.now self.old self.new result end_section }
     {
         self.section = self.section.next()?;
         self.opened = false;
@@ -164,7 +164,7 @@ impl<'a> State<'a> {
     // A line of values, by its section.
     fn read_values(&mut self, line: &'a [u8]) -> Option<()>
         requires { Ready line.now self.old }
-        ensures { LineRead line.now self.old self.new result (λ v. read_values v (fields line.now)) }
+        ensures { LineTaken line.now self.old self.new result (λ v. read_values v (fields line.now)) }
     {
         match self.section {
             Section::Classes => self.read_class(line),
@@ -177,7 +177,7 @@ impl<'a> State<'a> {
     // Any line.
     pub fn read_line(&mut self, line: &'a [u8]) -> Option<()>
         requires { Ready line.now self.old }
-        ensures { LineRead line.now self.old self.new result (λ v. read_line v line.now) }
+        ensures { LineTaken line.now self.old self.new result (λ v. read_line v line.now) }
     {
         if !self.opened {
             return self.read_header(line);

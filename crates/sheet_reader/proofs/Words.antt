@@ -14,7 +14,7 @@ use Rattle.drawing.proofs.Builder.{shown-nodes}
 use Rattle.sheet_lines.specs.declared.State.{State}
 use Rattle.sheet_lines.specs.inner.State.{tables_read, view_of}
 use Rattle.sheet_reader.specs.Sheet.{breach, read_sheet, tables_of, labels_of, feed_of}
-use Rattle.sheet_reader.specs.inner.Answers.{Whole, feed_room, Feedable, Given}
+use Rattle.sheet_reader.specs.inner.Answers.{Whole, feed_room, Feedable, Given, Counted}
 use Rattle.sheet_reader.proofs.Sizes.{feed-size}
 
 pub sheet-long : (s : List ℕ) → most_bytes < length s → read_sheet s ≡ breach 0
@@ -26,7 +26,7 @@ module _ {s : List ℕ} {x : State} (g : Whole s x) where
   feedable feed h = record { room = h; classes = g.fine.classes; labels = g.fine.labels; few = g.few }
 
   pub sheet-given : {feed feed' : List ℕ} {n : ℕ} → feed_room ≤ length feed → Put feed feed' 0 (feed_words (tables_of (tables_read x.classes)) (labels_of (tables_read x.labels))) n →
-      Given s feed' (record { feed = n; nodes = x.nodes; drawing = x.drawing })
+      Counted s feed' (record { feed = n; nodes = x.nodes; drawing = x.drawing })
   unfolding view_of feed_of
   sheet-given {feed} {n = n} h p =
       let f = feedable feed h in
@@ -35,13 +35,15 @@ module _ {s : List ℕ} {x : State} (g : Whole s x) where
       let count : n ≡ length (feed_words (tables_of (tables_read x.classes)) (labels_of (tables_read x.labels))) = omega (arith, p.next) in
       let d = shown-nodes x.drawing (record { nodes = g.fine.node_room; edges = g.fine.edge_room }) (omega (arith, g.fine.drawn, g.fine.nodes)) in
       record {
-        reading = view_of x;
-        outcome = g.shown;
-        feeds = rw (front, count) (take-append_seam _ _);
-        fits = omega (arith, p.next, put-size p, f.room);
-        draws = refl;
-        names = refl;
-        few = g.fine.nodes;
-        drawn = sym d ∙ g.fine.drawn;
+        shown = record {
+          reading = view_of x;
+          outcome = g.shown;
+          feeds = rw (front, count) (take-append_seam _ _);
+          fits = omega (arith, p.next, put-size p, f.room);
+          draws = refl;
+          names = refl;
+          few = g.fine.nodes;
+          drawn = sym d ∙ g.fine.drawn;
+        };
         counted = g.fine.drawn;
       }

@@ -6,15 +6,15 @@ use Rattle.sheet.proofs.sheet_query.Goals as goal
 
 pub slice_bounds-print_answer-end : goal.slice_bounds-print_answer-end
 slice_bounds-print_answer-end c =
-    let g = c.in-Ok.ensures in g.given.fits
+    let g = c.in-Ok.ensures in g.given.shown.fits
 
 pub print_answer-requires : goal.print_answer-requires
 print_answer-requires c =
-    let g = c.in-Ok.ensures in sym g.given.drawn
+    let g = c.in-Ok.ensures in sym g.given.shown.drawn
 
 pub returns-in-Ok : goal.returns-in-Ok
 returns-in-Ok c =
-    let g = c.in-Ok.ensures in c.print_answer.ensures ∙ whole-listed g.given _
+    let g = c.in-Ok.ensures in c.print_answer.ensures ∙ whole-listed g.given.shown _
 
 pub returns-in-Err : goal.returns-in-Err
 unfolding verdict_of

@@ -83,9 +83,13 @@ pub record Numbered (name : List ℕ) (x y : Tables) (k : ℕ) : Type 0 where
   pub entries : y.entries ≡ x.entries
   pub lines : y.lines ≡ x.lines
 
--- y shows what the line gives, and is x where it gives none; a line of classes or labels has four bytes, with its line feed
+-- y shows what the line gives; a line of classes or labels has four bytes, with its line feed
 pub record LineRead (line : List ℕ) (x y : State) (r : Maybe (Unit {0})) (reads : Reading → Option Reading) : Type 0 where
   pub answer : allow (is_some r) (view_of y) ≡ reads (view_of x)
   pub fine : Fine y
-  pub kept : is_some r ≡ false → y ≡ x
   pub count : 4 * line_count y ≤ 4 * line_count x + length line + 1
+
+-- y shows what the line gives, and is x where it gives none
+pub record LineTaken (line : List ℕ) (x y : State) (r : Maybe (Unit {0})) (reads : Reading → Option Reading) : Type 0 where
+  pub shown : LineRead line x y r reads
+  pub kept : is_some r ≡ false → y ≡ x

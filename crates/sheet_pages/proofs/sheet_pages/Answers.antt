@@ -5,15 +5,15 @@ use Rattle.sheet_pages.proofs.sheet_pages.Goals as goal
 
 pub slice_bounds-page_answer-end : goal.slice_bounds-page_answer-end
 slice_bounds-page_answer-end c =
-    let g = c.in-Ok.ensures in g.given.fits
+    let g = c.in-Ok.ensures in g.given.shown.fits
 
 pub page_answer-requires : goal.page_answer-requires
 page_answer-requires c =
-    let g = c.in-Ok.ensures in sym g.given.drawn
+    let g = c.in-Ok.ensures in sym g.given.shown.drawn
 
 pub returns-in-Ok : goal.returns-in-Ok
 returns-in-Ok c =
-    let g = c.in-Ok.ensures in gives_same (whole-answered g.given _) c.page_answer.ensures
+    let g = c.in-Ok.ensures in gives_same (whole-answered g.given.shown _) c.page_answer.ensures
 
 pub returns-in-Err : goal.returns-in-Err
 returns-in-Err c =

@@ -16,11 +16,11 @@ read_line-requires c =
 
 pub returns-then-is_none : goal.returns-then-is_none
 returns-then-is_none c =
-    line-breaks c.loop-line.invariant c.in-Some.ensures c.read_line.ensures (rw c.if-is_none.true at c.is_none.ensures)
+    line-breaks c.loop-line.invariant c.in-Some.ensures c.read_line.ensures.shown (rw c.if-is_none.true at c.is_none.ensures)
 
 pub loop-line-preserved : goal.loop-line-preserved
 loop-line-preserved c =
-    line-passes c.loop-line.invariant c.in-Some.ensures c.read_line.ensures (rw c.if-is_none.false at c.is_none.ensures)
+    line-passes c.loop-line.invariant c.in-Some.ensures c.read_line.ensures.shown (rw c.if-is_none.false at c.is_none.ensures)
 
 pub returns-then-ended-is_complete : goal.returns-then-ended-is_complete
 returns-then-ended-is_complete c =

@@ -72,9 +72,13 @@ pub record Given (s feed : List ℕ) (w : SheetRead) : Type 0 where
   pub names : names_of w.nodes ≡ reading.names
   pub few : length (names_of w.nodes) ≤ most_nodes
   pub drawn : length (view w.drawing).nodes ≡ length (names_of w.nodes)
+
+-- What the sheet gives, and that the drawing has as many nodes as there are names.
+pub record Counted (s feed : List ℕ) (w : SheetRead) : Type 0 where
+  pub shown : Given s feed w
   pub counted : w.drawing.n ≡ length (names_of w.nodes)
 
 -- the answer for a sheet, and what it gives where that accepts
 pub record Answers (s feed : List ℕ) (r : Result SheetRead Refusal) : Type 0 where
   pub verdict : verdict_of r ≡ verdict_in (read_sheet s)
-  pub given : IfOk r (Given s feed)
+  pub given : IfOk r (Counted s feed)
