@@ -356,7 +356,7 @@ module _ {line : List ℕ} {x : State} (g : Ready line x) where
 pub read_as : {line : List ℕ} {x y : State} {r : Maybe (Unit {0})} {reads reads' : Reading → Option Reading} → LineRead line x y r reads → reads (view_of x) ≡ reads' (view_of x) → LineRead line x y r reads'
 read_as c h = record { answer = c.answer ∙ h; fine = c.fine; count = c.count }
 
--- a law of what y shows is one of a line that is taken
+-- from one reading to another: what holds of `LineRead` holds of `LineTaken`
 pub taken_by : {line : List ℕ} {x y : State} {r : Maybe (Unit {0})} {reads reads' : Reading → Option Reading} → (LineRead line x y r reads → LineRead line x y r reads') → LineTaken line x y r reads → LineTaken line x y r reads'
 taken_by f c = record { shown = f c.shown; kept = c.kept }
 

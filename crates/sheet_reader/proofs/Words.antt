@@ -14,7 +14,7 @@ use Rattle.drawing.proofs.Builder.{shown-nodes}
 use Rattle.sheet_lines.specs.declared.State.{State}
 use Rattle.sheet_lines.specs.inner.State.{tables_read, view_of}
 use Rattle.sheet_reader.specs.Sheet.{breach, read_sheet, tables_of, labels_of, feed_of}
-use Rattle.sheet_reader.specs.inner.Answers.{Whole, feed_room, Feedable, Given, Counted}
+use Rattle.sheet_reader.specs.inner.Answers.{Whole, feed_room, Feedable, Counted}
 use Rattle.sheet_reader.proofs.Sizes.{feed-size}
 
 pub sheet-long : (s : List ℕ) → most_bytes < length s → read_sheet s ≡ breach 0
